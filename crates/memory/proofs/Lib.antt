@@ -1,0 +1,5 @@
+pub mod Scores
+pub mod Back
+pub mod Run
+pub mod Below
+pub mod Stored
