@@ -1,2 +1,5 @@
 pub mod Numbers
+pub mod Rows
+pub mod Written
+pub mod Fitting
 pub mod Back
