@@ -50,7 +50,7 @@ counted-below : (k n : ℕ) (bs : List ℕ) → k < 256 → field n ≡ true →
 counted-below k n bs h f p = all-below-more 256 k _ h (all-below-++ 256 (four n) bs (four-below n f) p)
 
 pub answer-below : (a : Answer) → answer-fits a ≡ true → all-below 256 (answer-bytes a) ≡ true
-unfolding answer-fits answer-bytes
+unfolding answer-fits
 answer-below done f = all-below-more 256 0 [] (omega arith) (all-below-none 256)
 answer-below (refused n p) f =
     let a = and-parts (ltb n 256) (field p) f in all-below-more 256 1 _ (omega arith) (all-below-more 256 n _ (ltb-true n 256 (a .0)) (four-below p (a .1)))

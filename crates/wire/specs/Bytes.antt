@@ -49,12 +49,19 @@ symbols-bytes xs = each symbol-bytes xs
 abbrev pub sounds-bytes : List (ℕ × Heard) → List ℕ
 sounds-bytes xs = each sound-bytes xs
 
+-- what stands before a row of symbols, and before one of sounds: the answer's kind, and how many there are
+abbrev pub symbols-head : ℕ → List ℕ
+symbols-head n = 2 ∷ four n
+
+abbrev pub sounds-head : ℕ → List ℕ
+sounds-head n = 3 ∷ four n
+
 -- an answer: its kind, and a refusal's number and place, a count and so many symbols or sounds, or a number
-unfoldable pub answer-bytes : Answer → List ℕ
+abbrev pub answer-bytes : Answer → List ℕ
 answer-bytes done = 0 ∷ []
 answer-bytes (refused n p) = 1 ∷ (n ∷ four p)
-answer-bytes (symbols xs) = 2 ∷ (four (length xs) ++ symbols-bytes xs)
-answer-bytes (sounds xs) = 3 ∷ (four (length xs) ++ sounds-bytes xs)
+answer-bytes (symbols xs) = symbols-head (length xs) ++ symbols-bytes xs
+answer-bytes (sounds xs) = sounds-head (length xs) ++ sounds-bytes xs
 answer-bytes (number n) = 4 ∷ four n
 
 -- written over the front of lent bytes: what is behind stays

@@ -1,13 +1,16 @@
 //! Calls and answers as bytes.
-ghost use mathlib.Core.List.{_++_};
+ghost use mathlib.Core.List.{_∷_, _++_};
 ghost use mathlib.Core.Path.{_≡_};
 ghost use Prim.Native.Nat.{_≤_};
 ghost use lib.ListN.{length, drop};
 ghost use Rattle.std.specs.Options.{mapped};
-ghost use Rattle.score.specs.Meaning.{symbol-meant, sound-meant};
-ghost use Rattle.wire.specs.Bytes.{symbol-bytes};
+ghost use Rattle.score.specs.Calls as Calls;
+ghost use Rattle.score.specs.Calls.{done};
+ghost use Rattle.score.specs.Meaning.{symbol-meant, sound-meant, refusal-meant};
+ghost use Rattle.wire.specs.Bytes.{four, symbol-bytes, sound-bytes, symbols-head, sounds-head, answer-bytes};
 ghost use Rattle.wire.specs.Reading.{symbol-of, sound-of};
 ghost use Rattle.wire.specs.Faithful.{Symbols-back, Sounds-back};
+use score::Refusal;
 use score::Sound;
 use score::Symbol;
 
@@ -35,6 +38,77 @@ pub fn write_symbol(out: &mut [u8], symbol: Symbol) -> usize
         }
     };
     out[0..5].copy_from_slice(&row);
+    5
+}
+
+/// Writes a note as it is heard over the first eight bytes.
+pub fn write_sound(out: &mut [u8], sound: Sound) -> usize
+    requires { ⌜ 8 ≤ length (now out) ⌝ }
+    ensures wrote { λ r. ⌜ now (out .exit) ≡ sound-bytes (sound-meant sound) ++ drop r (now (out .entry)) ⌝ }
+    ensures many { λ r. ⌜ r ≡ 8 ⌝ }
+{
+    let [a, b, c, d] = sound.start.to_le_bytes();
+    let [low, high] = sound.length.to_le_bytes();
+    out[0..8].copy_from_slice(&[sound.voice, sound.tone, a, b, c, d, low, high]);
+    8
+}
+
+/// Writes the answer that a call was done.
+pub fn write_done(out: &mut [u8]) -> usize
+    requires { ⌜ 1 ≤ length (now out) ⌝ }
+    ensures wrote { λ r. ⌜ now (out .exit) ≡ answer-bytes done ++ drop r (now (out .entry)) ⌝ }
+    ensures many { λ r. ⌜ r ≡ 1 ⌝ }
+{
+    out[0] = 0;
+    1
+}
+
+/// Writes the answer that a call, or an opening, was turned away.
+pub fn write_refused(out: &mut [u8], refusal: Refusal) -> usize
+    requires { ⌜ 6 ≤ length (now out) ⌝ }
+    ensures wrote { λ r. ⌜ now (out .exit) ≡ answer-bytes (refusal-meant refusal) ++ drop r (now (out .entry)) ⌝ }
+    ensures many { λ r. ⌜ r ≡ 6 ⌝ }
+{
+    let [a, b, c, d] = refusal.place().to_le_bytes();
+    out[0..6].copy_from_slice(&[1, refusal.number(), a, b, c, d]);
+    6
+}
+
+/// Writes the answer that is a number.
+pub fn write_number(out: &mut [u8], number: u32) -> usize
+    requires { ⌜ 5 ≤ length (now out) ⌝ }
+    ensures wrote { λ r. ⌜ now (out .exit) ≡ answer-bytes (Calls.number number) ++ drop r (now (out .entry)) ⌝ }
+    ensures many { λ r. ⌜ r ≡ 5 ⌝ }
+{
+    write_head(out, 4, number)
+}
+
+/// Writes what stands before a row of so many symbols, which may be there already, behind the first five bytes.
+pub fn write_symbols_head(out: &mut [u8], count: u32) -> usize
+    requires { ⌜ 5 ≤ length (now out) ⌝ }
+    ensures wrote { λ r. ⌜ now (out .exit) ≡ symbols-head count ++ drop r (now (out .entry)) ⌝ }
+    ensures many { λ r. ⌜ r ≡ 5 ⌝ }
+{
+    write_head(out, 2, count)
+}
+
+/// Writes what stands before a row of so many sounds, which may be there already, behind the first five bytes.
+pub fn write_sounds_head(out: &mut [u8], count: u32) -> usize
+    requires { ⌜ 5 ≤ length (now out) ⌝ }
+    ensures wrote { λ r. ⌜ now (out .exit) ≡ sounds-head count ++ drop r (now (out .entry)) ⌝ }
+    ensures many { λ r. ⌜ r ≡ 5 ⌝ }
+{
+    write_head(out, 3, count)
+}
+
+/// Writes an answer's kind and a number.
+fn write_head(out: &mut [u8], kind: u8, number: u32) -> usize
+    requires { ⌜ 5 ≤ length (now out) ⌝ }
+    ensures wrote { λ r. ⌜ now (out .exit) ≡ (kind ∷ four number) ++ drop r (now (out .entry)) ⌝ }
+    ensures many { λ r. ⌜ r ≡ 5 ⌝ }
+{
+    let [a, b, c, d] = number.to_le_bytes();
+    out[0..5].copy_from_slice(&[kind, a, b, c, d]);
     5
 }
 
