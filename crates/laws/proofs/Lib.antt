@@ -1,6 +1,11 @@
 pub mod Tables
 pub mod Events
+pub mod Rows
 pub mod Pieces
 pub mod Few
 pub mod Laid
 pub mod Steps
+pub mod Bars
+pub mod Owing
+pub mod Walk
+pub mod Room

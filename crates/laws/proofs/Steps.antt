@@ -1,16 +1,17 @@
 -- A length laid over bar lines, one value at a time. Assumes nothing.
 use mathlib.Core.Path.{_≡_, refl, sym, ap, _∙_}
 use mathlib.Core.Logic.{_⊎_, inl, inr}
+use mathlib.Core.Bool.{true}
 use mathlib.Core.List.{List, [], _∷_, _++_}
 use Prim.Native.Nat.{ℕ, zero, suc, _+_, _-_, _%_, _≤_, _<_}
 use native.Mathlib.Omega.{arith}
 use lib.Dec.{ltb, leb, eqb}
 use Rattle.std.proofs.shelf.Tests.{leb-true, eq-eqb, ne-eqb, le-leb, cases-lt, lt-ltb}
 use Rattle.score.specs.Music.{pick}
-use Rattle.score.specs.Print.{all-values, largest, pieces, Chunk, value, line, as-values, lesser, chunks, has-value}
+use Rattle.score.specs.Print.{all-values, largest, pieces, Chunk, value, line, as-values, lesser, chunks, has-line, has-value}
 use Rattle.score.proofs.Picks.{pick-true, pick-false, pick-both}
 use Rattle.laws.proofs.Pieces.{value-in, pieces-next}
-use Rattle.laws.proofs.Laid.{lesser-both, chunks-begin}
+use Rattle.laws.proofs.Laid.{lesser-both, chunks-begin, line-in}
 
 -- nothing; what ends in this bar; what goes on behind its line
 pub chunks-none : (k b o : ℕ) → chunks k b o 0 ≡ []
@@ -34,6 +35,9 @@ chunks-over k b o d s p e h =
     pick-false _ _ _ (ne-eqb d 0 (λ z. omega arith))
     ∙ ap (λ (s : ℕ). pick (eqb (o + s) b) (as-values (pieces s s) ++ (line ∷ chunks k b 0 (d - s))) (as-values (pieces s s))) l
     ∙ pick-true _ _ _ (eq-eqb (o + s) b e)
+
+pub chunks-lined : (k b o d : ℕ) → o < b → b ≤ o + d → has-line (chunks (suc k) b o d) ≡ true
+chunks-lined k b o d h l = ap has-line (chunks-over k b o d (b - o) (omega arith) (omega arith) (omega arith)) ∙ line-in (pieces (b - o) (b - o)) (chunks k b 0 (d - (b - o)))
 
 -- the bound on how many bars does not matter where it is large enough
 pub chunks-fuel : (j k b o d : ℕ) → d < j → d < k → o < b → chunks j b o d ≡ chunks k b o d

@@ -6,6 +6,13 @@ use lib.Dec.{eqb, leb}
 use Rattle.score.specs.Music.{pick, Event, note, silence, lasts}
 use Rattle.score.specs.Print.{Symbol, bar, head, rest, key, Chunk, value, line, chunks, has-line, has-value, print}
 
+-- the sign of a note that begins, and what holds behind chunks if st held before them: the key, if a bar line was among them
+abbrev pub sign-of : (ℕ → ℕ) → ℕ → ℕ → ℕ
+sign-of st p a = pick (eqb (st p) a) 0 (suc a)
+
+abbrev pub holding : ℕ → List Chunk → (ℕ → ℕ) → ℕ → ℕ
+holding k cs st = pick (has-line cs) (key k) st
+
 -- one symbol of an event at place p: a rest if that is 70, the place of a silence
 abbrev pub one : ℕ → ℕ → ℕ → Bool → Symbol
 one p s v tied = pick (eqb p 70) (rest v) (head p s v tied)
@@ -19,7 +26,7 @@ drawn p s (value v ∷ cs) = one p s v (has-value cs) ∷ drawn p 0 cs
 -- d ticks of an event at place p, from tick o of a bar on, and the events behind it
 unfoldable pub going : ℕ → ℕ → ℕ → (ℕ → ℕ) → ℕ → ℕ → ℕ → List Event → List Symbol
 going k b o st p s d es =
-    drawn p s (chunks (suc d) b o d) ++ print k b ((o + d) % b) (pick (has-line (chunks (suc d) b o d)) (key k) st) es
+    drawn p s (chunks (suc d) b o d) ++ print k b ((o + d) % b) (holding k (chunks (suc d) b o d) st) es
 
 -- the same, where the bar may be full and its line not yet printed
 unfoldable pub owed : ℕ → ℕ → ℕ → (ℕ → ℕ) → ℕ → ℕ → ℕ → List Event → List Symbol
