@@ -3,3 +3,4 @@ pub mod Back
 pub mod Run
 pub mod Below
 pub mod Stored
+pub mod Held

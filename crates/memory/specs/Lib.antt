@@ -1,3 +1,4 @@
 pub mod Store
 pub mod Words
+pub mod Moves
 pub mod Owed

@@ -2,12 +2,14 @@
 use mathlib.Core.Path.{_≡_}
 use mathlib.Core.Bool.{Bool, true}
 use mathlib.Core.List.{List}
-use Prim.Native.Nat.{ℕ, _≤_, _<_}
-use lib.ListN.{length, replicate}
-use Rattle.score.specs.Calls.{Call, Answer, Limits, Layout, empty-voices, turned, after, answer}
+use Prim.Native.Nat.{ℕ, _+_, _≤_, _<_}
+use lib.ListN.{length, take, drop, replicate}
+use Rattle.score.specs.Music.{Event}
+use Rattle.score.specs.Calls.{Call, Answer, voice, all-events, empty-voices, turned, after, answer}
 use Rattle.score.specs.Promise.{Good-layout, Memory, Engraver, whole}
 use Rattle.wire.specs.Bytes.{answer-bytes, written}
-use Rattle.memory.specs.Store.{words-asked, bytes-asked, stored, voices-in, limit-in, limits-by, limits-of, layout-of, score-of, Kept}
+use Rattle.laws.specs.Rows.{voice-of}
+use Rattle.memory.specs.Store.{words-asked, bytes-asked, stored, voices-in, limit-in, places-from, alterations-from, lengths-from, limits-by, limits-of, layout-of, score-of, Kept}
 
 -- they are what some score is stored as, and just as many as are asked for
 pub record Holds (w : List ℕ) : Type 0 where
@@ -18,6 +20,19 @@ pub record Holds (w : List ℕ) : Type 0 where
   pub few-voices : voices-in w ≤ 64
   pub few-events : limit-in w ≤ 65536
   pub good-layout : Good-layout (layout-of w)
+
+-- the events whose words lie in the three regions from a beginning on, so many
+abbrev pub events-at : List ℕ → ℕ → ℕ → List Event
+events-at w begin count =
+    voice-of (take count (drop (places-from w + begin) w)) (take count (drop (alterations-from w + begin) w)) (take count (drop (lengths-from w + begin) w))
+
+-- where the events of a voice that is there lie in each region
+pub record Spans (w : List ℕ) (v begin count : ℕ) : Type 0 where
+  pub there : v < voices-in w
+  pub begins : begin ≡ all-events (take v (score-of w))
+  pub counts : count ≡ length (voice (score-of w) v)
+  pub within : begin + count ≤ limit-in w
+  pub events : events-at w begin count ≡ voice (score-of w) v
 
 -- at a stage: the number by which a call is turned away or 0, what it is answered, and the words that it leaves
 unfoldable pub turned-by-stage : (ℕ → Bool) → Bool → List ℕ → Call → ℕ
