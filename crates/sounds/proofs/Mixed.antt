@@ -77,23 +77,24 @@ module _ (f g : ℕ → Notes) (v : ℕ) (x : ℕ × Heard) (xs : Notes) (here :
   unfolding mixed
   mixed-next zero w l m = absurd (omega arith)
   mixed-next (suc n) w l m =
-      elim (cases-eq w v)
-          [ inl e ↦
-              let fw : f w ≡ x ∷ xs = ap f e ∙ here in
-              let gw : g w ≡ xs = ap g e ∙ gone in
-              let rest : mixed f n (suc w) ≡ mixed g n (suc w) = mixed-same f g n (suc w) (λ u k. same u (λ i. omega arith)) in
-              let late : From (x .1 .start) (mixed f n (suc w)) = from-mixed _ f n (suc w) (λ u k. behind u (omega arith)) in
-              ap (λ (r : Notes). merged (length r + length (mixed f n (suc w))) r (mixed f n (suc w))) fw
-              ∙ ap (λ (k : ℕ). merged k (x ∷ xs) (mixed f n (suc w))) (omega arith)
-              ∙ merged-first x xs (mixed f n (suc w)) late
-              ∙ ap (λ (r : Notes). x ∷ merged (length xs + length r) xs r) rest
-              ∙ ap (λ (r : Notes). x ∷ merged (length r + length (mixed g n (suc w))) r (mixed g n (suc w))) (sym gw)
-          | inr ne ↦
-              let rest : mixed f n (suc w) ≡ x ∷ mixed g n (suc w) = mixed-next n (suc w) (omega arith) (omega arith) in
-              ap (λ (r : Notes). merged (length (f w) + length r) (f w) r) rest
-              ∙ ap (λ (k : ℕ). merged k (f w) (x ∷ mixed g n (suc w))) (omega arith)
-              ∙ merged-second x (f w) (mixed g n (suc w)) (before w (omega arith))
-              ∙ ap (λ (r : Notes). x ∷ merged (length r + length (mixed g n (suc w))) r (mixed g n (suc w))) (same w ne) ]
+      elim (cases-eq w v) [
+        | inl e ↦
+            let fw : f w ≡ x ∷ xs = ap f e ∙ here in
+            let gw : g w ≡ xs = ap g e ∙ gone in
+            let rest : mixed f n (suc w) ≡ mixed g n (suc w) = mixed-same f g n (suc w) (λ u k. same u (λ i. omega arith)) in
+            let late : From (x .1 .start) (mixed f n (suc w)) = from-mixed _ f n (suc w) (λ u k. behind u (omega arith)) in
+            ap (λ (r : Notes). merged (length r + length (mixed f n (suc w))) r (mixed f n (suc w))) fw
+            ∙ ap (λ (k : ℕ). merged k (x ∷ xs) (mixed f n (suc w))) (omega arith)
+            ∙ merged-first x xs (mixed f n (suc w)) late
+            ∙ ap (λ (r : Notes). x ∷ merged (length xs + length r) xs r) rest
+            ∙ ap (λ (r : Notes). x ∷ merged (length r + length (mixed g n (suc w))) r (mixed g n (suc w))) (sym gw)
+        | inr ne ↦
+            let rest : mixed f n (suc w) ≡ x ∷ mixed g n (suc w) = mixed-next n (suc w) (omega arith) (omega arith) in
+            ap (λ (r : Notes). merged (length (f w) + length r) (f w) r) rest
+            ∙ ap (λ (k : ℕ). merged k (f w) (x ∷ mixed g n (suc w))) (omega arith)
+            ∙ merged-second x (f w) (mixed g n (suc w)) (before w (omega arith))
+            ∙ ap (λ (r : Notes). x ∷ merged (length r + length (mixed g n (suc w))) r (mixed g n (suc w))) (same w ne)
+      ]
 
 -- what is heard together, as the mixed rows of the voices
 together-from : (s : Score) (w a b : ℕ) → together s w a b ≡ mixed (λ u. begins u a b (heard (voice s (u - w)) 0)) (length s) w
@@ -102,13 +103,14 @@ together-from [] w a b = refl
 together-from (e ∷ es) w a b =
     let f : ℕ → Notes = λ u. begins u a b (heard (voice (e ∷ es) (u - w)) 0) in
     let rest : together es (suc w) a b ≡ mixed f (length es) (suc w) =
-        together-from es (suc w) a b
-        ∙ mixed-same _ f (length es) (suc w) (λ u l. ap (λ (k : ℕ). begins u a b (heard (getD (e ∷ es) k []) 0)) (sub-suc u w l)) in
+    together-from es (suc w) a b
+    ∙ mixed-same _ f (length es) (suc w) (λ u l. ap (λ (k : ℕ). begins u a b (heard (getD (e ∷ es) k []) 0)) (sub-suc u w l)) in
     ap (λ (r : Notes). merged (length (begins w a b (heard e 0)) + length r) (begins w a b (heard e 0)) r) rest
     ∙ ap (λ (k : ℕ). let mine : Notes = begins w a b (heard (getD (e ∷ es) k []) 0) in merged (length mine + length (mixed f (length es) (suc w))) mine (mixed f (length es) (suc w))) (self-sub w)
   where
     sub-suc : (u w : ℕ) → suc w ≤ u → suc (u - suc w) ≡ u - w
     sub-suc u w l = omega arith
+
     self-sub : (w : ℕ) → 0 ≡ w - w
     self-sub w = omega arith
 
