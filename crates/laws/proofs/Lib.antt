@@ -9,3 +9,9 @@ pub mod Bars
 pub mod Owing
 pub mod Walk
 pub mod Room
+pub mod Reading
+pub mod FromBar
+pub mod Signs
+pub mod Staying
+pub mod Together
+pub mod Turning

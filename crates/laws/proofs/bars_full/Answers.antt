@@ -1,0 +1,6 @@
+-- The theorem is proved in proofs/Bars.antt.
+use Rattle.laws.proofs.Bars.{bars-full}
+use Rattle.laws.proofs.bars_full.Needs as need
+
+pub returns : need.returns
+returns c = bars-full

@@ -1,0 +1,6 @@
+-- The theorem is proved in proofs/Few.antt.
+use Rattle.laws.proofs.Few.{fewest}
+use Rattle.laws.proofs.fewest.Needs as need
+
+pub returns : need.returns
+returns c = fewest

@@ -1,0 +1,6 @@
+-- The theorem is proved in proofs/Turning.antt.
+use Rattle.laws.proofs.Turning.{turned-away}
+use Rattle.laws.proofs.turned_away.Needs as need
+
+pub returns : need.returns
+returns c = turned-away

@@ -1,0 +1,6 @@
+-- The theorem is proved in proofs/Turning.antt.
+use Rattle.laws.proofs.Turning.{undone}
+use Rattle.laws.proofs.undone.Needs as need
+
+pub returns : need.returns
+returns c = undone
