@@ -12,7 +12,7 @@ use Rattle.std.proofs.shelf.Lists.{at-drop-more, at-drop-all}
 use Rattle.std.proofs.shelf.Tests.{le-leb, lt-leb, eq-eqb, ne-eqb, and-from, and-left, and-right}
 use Rattle.score.specs.Music.{pick}
 use Rattle.score.proofs.Picks.{pick-true, pick-false}
-use Rattle.text.specs.Lines.{Read, got, stuck, is-digit, begins-with-digit, number-on, number, strip, shorter, or-else, one-of}
+use Rattle.text.specs.Words.{Read, got, stuck, is-digit, begins-with-digit, number-on, number, strip, shorter, or-else, one-of}
 
 digit-is : (d : ℕ) → d ≤ 9 → is-digit (48 + d) ≡ true
 digit-is d h = and-from _ _ (le-leb 48 (48 + d) (omega arith)) (le-leb (48 + d) 57 (omega arith))

@@ -1,61 +1,61 @@
--- How a line is read, from its front on. Assumes nothing: these are definitions.
-use mathlib.Core.Bool.{Bool, true, false, _&&_}
-use mathlib.Core.List.{List, [], _∷_, _++_}
-use Prim.Native.Nat.{ℕ, zero, suc, _+_, _-_, _*_}
-use lib.Dec.{eqb, leb, ltb}
+-- What a line of text says: an event, a call, a setting. Assumes nothing: these are definitions.
+use mathlib.Core.List.{List, [], _∷_}
+use Prim.Native.Nat.{ℕ, _+_, _-_, _*_, _/_}
+use lib.Chars.{codes}
+use lib.Dec.{eqb, ltb}
 use lib.ListN.{length}
-use denote.Ref.{RefT, now}
 use Rattle.std.specs.declared.result.Result.{Result}
 use Rattle.std.specs.declared.result.Result.the-variants.{Ok, Err}
-use Rattle.score.specs.Music.{pick}
+use Rattle.score.specs.Music.{pick, Event, note, silence}
+use Rattle.score.specs.Calls.{Call, put, cut, change, show, heard-in, how-long}
+use Rattle.score.specs.Meaning.{event-meant, call-meant}
+use Rattle.score.specs.declared.Event.{Event as EventType}
+use Rattle.score.specs.declared.Call.{Call as CallType}
+use Rattle.text.specs.Words.{Read, got, stuck, then, strip, one-of, number, spaced-number}
+use Rattle.text.specs.declared.lines.Unfit.{Unfit}
 
--- what came of reading: a value and the bytes behind it, or the bytes from the first on that does not fit
-pub data Read (A : Type 0) : Type 0 where
-  got : A → List ℕ → Read A
-  stuck : List ℕ → Read A
+-- the largest numbers that fields of one, two and four bytes carry
+abbrev pub most-in-one : ℕ
+most-in-one = 255
 
--- the same as the code has it
-abbrev pub outcome : {A : Type 0} → Result (A × RefT (List ℕ)) (RefT (List ℕ)) → Read A
-outcome (Ok v) = got (v .0) (now (v .1))
-outcome (Err e) = stuck (now e)
+abbrev pub most-in-two : ℕ
+most-in-two = 65535
 
-unfoldable pub then : {A B : Type 0} → Read A → (A → List ℕ → Read B) → Read B
-then (got a xs) f = f a xs
-then (stuck xs) f = stuck xs
+abbrev pub most-in-four : ℕ
+most-in-four = 4294967295
 
-abbrev pub is-digit : ℕ → Bool
-is-digit x = leb 48 x && leb x 57
+-- how an event begins: with one of the steps in their order, or as a silence, the last
+unfoldable pub beginning : List ℕ → Read ℕ
+beginning xs =
+    one-of (codes "c" ∷ (codes "d" ∷ (codes "e" ∷ (codes "f" ∷ (codes "g" ∷ (codes "a" ∷ (codes "b" ∷ (codes "silence" ∷ [])))))))) 0 xs xs
 
-unfoldable pub begins-with-digit : List ℕ → Bool
-begins-with-digit [] = false
-begins-with-digit (x ∷ xs) = is-digit x
+-- alterations but for none, in their order
+unfoldable pub alteration-word : List ℕ → Read ℕ
+alteration-word xs = one-of (codes "double flat " ∷ (codes "flat " ∷ (codes "sharp " ∷ (codes "double sharp " ∷ [])))) 0 xs xs
 
--- a number whose digits so far came to n: a digit that would make it more than `most` does not fit
-unfoldable pub number-on : ℕ → ℕ → List ℕ → Read ℕ
-number-on most n [] = got n []
-number-on most n (x ∷ xs) =
-    pick (is-digit x)
-    (pick (leb (10 * n + (x - 48)) most) (number-on most (10 * n + (x - 48)) xs) (stuck (x ∷ xs)))
-    (got n (x ∷ xs))
+abbrev pub alteration-at : ℕ → ℕ
+alteration-at i = pick (eqb i 0) 0 (pick (eqb i 1) 1 (pick (eqb i 2) 3 4))
 
--- a number has at least one digit
-unfoldable pub number : ℕ → List ℕ → Read ℕ
-number most xs = pick (begins-with-digit xs) (number-on most 0 xs) (stuck xs)
+-- a space leads to an alteration; else there is none
+abbrev pub alteration-in : List ℕ → Read (Unit {0}) → Read ℕ
+alteration-in xs (got t ys) = then (alteration-word ys) (λ i zs. got (alteration-at i) zs)
+alteration-in xs (stuck ys) = got 2 xs
 
--- just this word
-unfoldable pub strip : List ℕ → List ℕ → Read (Unit {0})
-strip [] xs = got tt xs
-strip (w ∷ ws) [] = stuck []
-strip (w ∷ ws) (x ∷ xs) = pick (eqb w x) (strip ws xs) (stuck (x ∷ xs))
+abbrev pub alteration : List ℕ → Read ℕ
+alteration xs = alteration-in xs (strip (codes " ") xs)
 
-abbrev pub shorter : List ℕ → List ℕ → List ℕ
-shorter xs ys = pick (ltb (length xs) (length ys)) xs ys
+-- a note behind its step: c4 48, or f sharp 4 96
+abbrev pub note-on : ℕ → List ℕ → Read Event
+note-on s xs =
+    then (alteration xs) (λ a ys. then (number ((most-in-one - s) / 7) ys) (λ o zs.
+    then (spaced-number most-in-two zs) (λ d rest. got (note (7 * o + s) a d) rest)))
 
-abbrev pub or-else : Read (Unit {0}) → ℕ → (List ℕ → Read ℕ) → Read ℕ
-or-else (got t ys) i f = got i ys
-or-else (stuck ys) i f = f ys
+abbrev pub silence-on : List ℕ → Read Event
+silence-on xs = then (spaced-number most-in-two xs) (λ d rest. got (silence d) rest)
 
--- the first of some words that fits, by its index, which counts from i; if none does, from the furthest place on that one of them came to
-unfoldable pub one-of : List (List ℕ) → ℕ → List ℕ → List ℕ → Read ℕ
-one-of [] i furthest xs = stuck furthest
-one-of (w ∷ ws) i furthest xs = or-else (strip w xs) i (λ ys. one-of ws (suc i) (shorter ys furthest) xs)
+abbrev pub event : List ℕ → Read Event
+event xs = then (beginning xs) (λ i ys. pick (ltb i 7) (note-on i ys) (silence-on ys))
+
+abbrev pub event-read : Read EventType → Read Event
+event-read (got e xs) = got (event-meant e) xs
+event-read (stuck xs) = stuck xs

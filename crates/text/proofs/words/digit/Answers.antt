@@ -1,7 +1,7 @@
 -- A line begins with a digit by its first byte.
 use Rattle.text.proofs.Steps.{none-empty, none-below, none-above}
-use Rattle.text.proofs.digit.Needs as need
-use Rattle.text.proofs.digit.Needs.{then-first-lt48·by·then-first-lt48, then-first-lt48·by·else-first-lt48·then-first-gt57}
+use Rattle.text.proofs.words.digit.Needs as need
+use Rattle.text.proofs.words.digit.Needs.{then-first-lt48·by·then-first-lt48, then-first-lt48·by·else-first-lt48·then-first-gt57}
 
 pub returns-in-rest : need.returns-in-rest
 returns-in-rest c = none-empty _ (c .in-rest .ensures tt .cases)

@@ -7,8 +7,8 @@ use lib.ListN.{length}
 use Rattle.std.proofs.shelf.Tests.{lt-ltb, le-ltb}
 use Rattle.score.proofs.Picks.{pick-true, pick-false}
 use Rattle.text.proofs.Steps.{word-fits, word-unfit, words-over}
-use Rattle.text.proofs.read_one_of.Needs as need
-use Rattle.text.proofs.read_one_of.Needs.{then-rest-furthest, else-rest-furthest}
+use Rattle.text.proofs.words.read_one_of.Needs as need
+use Rattle.text.proofs.words.read_one_of.Needs.{then-rest-furthest, else-rest-furthest}
 
 pub returns-in-Ok : need.returns-in-Ok
 returns-in-Ok c =
@@ -19,9 +19,10 @@ pub loop-i-again : need.loop-i-again
 loop-i-again c =
     let h : c .loop-i .i < length (c .args .words .now) = omega arith in
     word-unfit _ _ _ _ _ _ _ _ h (c .as-bytes .ensures .value) (c .in-Err .ensures tt)
-        (elim (c .if-rest-furthest .came) [
-            then-rest-furthest w ↦ ap now (w .furthest-is) ∙ sym (pick-true _ _ _ (lt-ltb _ _ (w .if-rest-furthest .taken)))
-          | else-rest-furthest w ↦ ap now (w .furthest-is) ∙ sym (pick-false _ _ _ (le-ltb _ _ (w .if-rest-furthest .left))) ])
+    (elim (c .if-rest-furthest .came) [
+      | then-rest-furthest w ↦ ap now (w .furthest-is) ∙ sym (pick-true _ _ _ (lt-ltb _ _ (w .if-rest-furthest .taken)))
+      | else-rest-furthest w ↦ ap now (w .furthest-is) ∙ sym (pick-false _ _ _ (le-ltb _ _ (w .if-rest-furthest .left)))
+    ])
     ∙ c .loop-i .inv
 
 pub returns : need.returns

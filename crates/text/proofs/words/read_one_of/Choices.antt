@@ -3,8 +3,8 @@ use mathlib.Core.List.{map}
 use mathlib.Core.Path.{_≡_}
 use lib.ListN.{drop}
 use denote.Ref.{now}
-use Rattle.text.specs.Lines.{one-of}
-use Rattle.text.proofs.read_one_of.Given as given
+use Rattle.text.specs.Words.{one-of}
+use Rattle.text.proofs.words.read_one_of.Given as given
 
 abbrev pub Inv-loop-i : given.InvT-loop-i
 Inv-loop-i l = one-of (map now (drop (l .i) (l .words))) (l .i) (l .furthest) (l .line) ≡ one-of (map now (l .words)) 0 (l .line) (l .line)

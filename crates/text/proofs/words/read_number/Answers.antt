@@ -2,19 +2,22 @@
 use native.Mathlib.Omega.{arith}
 use mathlib.Core.Path.{_≡_, sym, _∙_}
 use Rattle.score.proofs.Picks.{pick-false}
-use Rattle.text.specs.Lines.{number}
+use Rattle.text.specs.Words.{number}
 use Rattle.text.proofs.Steps.{number-begun, digit-fits, digit-too-much, digits-over}
-use Rattle.text.proofs.read_number.Needs as need
+use Rattle.text.proofs.words.read_number.Needs as need
 
 pub returns-in-rest : need.returns-in-rest
 unfolding number
-returns-in-rest c = sym (pick-false _ _ _ (c .in-rest .ensures tt))
+returns-in-rest c = record { read = sym (pick-false _ _ _ (c .in-rest .ensures tt)); bound = tt }
 
 pub returns-then-next-most : need.returns-then-next-most
 returns-then-next-most c =
     let f = c .in-Some-digit .ensures tt in
     let b = c .in-Some .ensures tt in
-    sym (digit-too-much _ _ _ _ _ (f .0) (f .1) (c .if-next-most .taken)) ∙ c .loop-d .inv .0 ∙ number-begun _ _ _ _ (b .0) (b .1)
+    record {
+      read = sym (digit-too-much _ _ _ _ _ (f .0) (f .1) (c .if-next-most .taken)) ∙ c .loop-d .inv .0 ∙ number-begun _ _ _ _ (b .0) (b .1);
+      bound = tt;
+    }
 
 pub loop-d-again : need.loop-d-again
 loop-d-again c =
@@ -24,4 +27,7 @@ loop-d-again c =
 pub returns : need.returns
 returns c =
     let b = c .in-Some .ensures tt in
-    sym (digits-over _ _ _ (c .in-rest-digit .ensures tt)) ∙ c .loop-d .inv .0 ∙ number-begun _ _ _ _ (b .0) (b .1)
+    record {
+      read = sym (digits-over _ _ _ (c .in-rest-digit .ensures tt)) ∙ c .loop-d .inv .0 ∙ number-begun _ _ _ _ (b .0) (b .1);
+      bound = c .loop-d .inv .1;
+    }

@@ -2,8 +2,8 @@
 use mathlib.Core.Path.{_≡_}
 use Prim.Native.Nat.{_≤_}
 use lib.ListN.{length}
-use Rattle.text.specs.Lines.{number-on}
-use Rattle.text.proofs.read_number.Given as given
+use Rattle.text.specs.Words.{number-on}
+use Rattle.text.proofs.words.read_number.Given as given
 
 abbrev pub Inv-loop-d : given.InvT-loop-d
 Inv-loop-d l = (number-on (l .most) (l .n) (l .rest) ≡ number-on (l .most) 0 (l .line)) × (l .n ≤ l .most)

@@ -4,7 +4,7 @@ use mathlib.Core.Path.{_≡_, sym, _∙_}
 use Prim.Native.Nat.{_<_, _≤_}
 use lib.ListN.{length}
 use Rattle.text.proofs.Steps.{letter-same, letter-other, letter-none, letters-over}
-use Rattle.text.proofs.read_word.Needs as need
+use Rattle.text.proofs.words.read_word.Needs as need
 
 pub returns-in-rest : need.returns-in-rest
 returns-in-rest c =
