@@ -59,3 +59,76 @@ event xs = then (beginning xs) (λ i ys. pick (ltb i 7) (note-on i ys) (silence-
 abbrev pub event-read : Read EventType → Read Event
 event-read (got e xs) = got (event-meant e) xs
 event-read (stuck xs) = stuck xs
+
+-- which call a line is, by its first word
+unfoldable pub verb : List ℕ → Read ℕ
+verb xs =
+    one-of (codes "put" ∷ (codes "cut" ∷ (codes "change" ∷ (codes "show" ∷ (codes "heard in" ∷ (codes "how long" ∷ [])))))) 0 xs xs
+
+-- a field of a call
+abbrev pub field : List ℕ → Read ℕ
+field xs = spaced-number most-in-four xs
+
+-- a voice, an index and an event
+abbrev pub edit-on : List ℕ → Read (ℕ × ℕ × Event)
+edit-on xs =
+    then (field xs) (λ v ys. then (field ys) (λ i zs.
+    then (strip (codes " ") zs) (λ _ us. then (event us) (λ e rest. got (v, i, e) rest))))
+
+abbrev pub edit-read : Read (ℕ × ℕ × EventType) → Read (ℕ × ℕ × Event)
+edit-read (got e xs) = got (e .0, e .1, event-meant (e .2)) xs
+edit-read (stuck xs) = stuck xs
+
+abbrev pub put-on : List ℕ → Read Call
+put-on xs = then (edit-on xs) (λ e rest. got (put (e .0) (e .1) (e .2)) rest)
+
+abbrev pub change-on : List ℕ → Read Call
+change-on xs = then (edit-on xs) (λ e rest. got (change (e .0) (e .1) (e .2)) rest)
+
+abbrev pub cut-on : List ℕ → Read Call
+cut-on xs = then (field xs) (λ v ys. then (field ys) (λ i rest. got (cut v i) rest))
+
+abbrev pub show-on : List ℕ → Read Call
+show-on xs = then (field xs) (λ v ys. then (field ys) (λ b zs. then (field zs) (λ n rest. got (show v b n) rest)))
+
+abbrev pub heard-on : List ℕ → Read Call
+heard-on xs = then (field xs) (λ a ys. then (field ys) (λ b rest. got (heard-in a b) rest))
+
+abbrev pub long-on : List ℕ → Read Call
+long-on xs = then (field xs) (λ v rest. got (how-long v) rest)
+
+abbrev pub call-on : ℕ → List ℕ → Read Call
+call-on i xs =
+    pick (eqb i 0) (put-on xs) (pick (eqb i 1) (cut-on xs) (pick (eqb i 2) (change-on xs)
+    (pick (eqb i 3) (show-on xs) (pick (eqb i 4) (heard-on xs) (long-on xs)))))
+
+abbrev pub call-words : List ℕ → Read Call
+call-words xs = then (verb xs) (λ i ys. call-on i ys)
+
+abbrev pub call-read : Read CallType → Read Call
+call-read (got c xs) = got (call-meant c) xs
+call-read (stuck xs) = stuck xs
+
+-- a line is read whole: what it says, or the first byte that does not fit, or its length where it ends too early
+abbrev pub whole : {A : Type 0} → List ℕ → Read A → Result A ℕ
+whole line (got a []) = Ok a
+whole line (got a (x ∷ xs)) = Err (length line - length (x ∷ xs))
+whole line (stuck xs) = Err (length line - length xs)
+
+abbrev pub call-line : List ℕ → Result Call ℕ
+call-line xs = whole xs (call-words xs)
+
+abbrev pub event-line : List ℕ → Result Event ℕ
+event-line xs = whole xs (event xs)
+
+-- a setting, as `key 7`
+abbrev pub named : List ℕ → List ℕ → Read ℕ
+named name xs = then (strip name xs) (λ _ ys. field ys)
+
+abbrev pub setting-line : List ℕ → List ℕ → Result ℕ ℕ
+setting-line name xs = whole xs (named name xs)
+
+-- the same as the code has it
+abbrev pub said : {A B : Type 0} → (A → B) → Result A Unfit → Result B ℕ
+said f (Ok a) = Ok (f a)
+said f (Err u) = Err (u .at)
