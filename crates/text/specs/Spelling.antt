@@ -1,0 +1,38 @@
+-- How events, symbols, sounds and answers are spelled. Assumes nothing: these are definitions.
+use mathlib.Core.Bool.{Bool, true, false}
+use mathlib.Core.List.{List, [], _∷_, _++_}
+use Prim.Native.Nat.{ℕ, _+_, _-_, _*_, _/_, _%_}
+use lib.Chars.{codes}
+use lib.Dec.{eqb}
+use Rattle.std.specs.Written.{decimal}
+use Rattle.score.specs.Music.{pick, Event, note, silence, Heard}
+use Rattle.score.specs.Print.{Symbol, bar, head, rest}
+
+-- steps by their letters, from c on
+abbrev pub letter : ℕ → List ℕ
+letter s =
+    pick (eqb s 0) (codes "c") (pick (eqb s 1) (codes "d") (pick (eqb s 2) (codes "e") (pick (eqb s 3) (codes "f")
+    (pick (eqb s 4) (codes "g") (pick (eqb s 5) (codes "a") (codes "b"))))))
+
+-- signs before a head: none, double flat, flat, natural, sharp, double sharp
+abbrev pub mark : ℕ → List ℕ
+mark s =
+    pick (eqb s 0) [] (pick (eqb s 1) (codes "--") (pick (eqb s 2) (codes "-") (pick (eqb s 3) (codes "n")
+    (pick (eqb s 4) (codes "#") (codes "x")))))
+
+-- a symbol, as `#f4:96`, `nf4:48~`, `r24` or `bar`
+abbrev pub spelled-symbol : Symbol → List ℕ
+spelled-symbol bar = codes "bar"
+spelled-symbol (head p s v tied) =
+    mark s ++ (letter (p % 7) ++ (decimal (p / 7) ++ (codes ":" ++ (decimal v ++ pick tied (codes "~") []))))
+spelled-symbol (rest v) = codes "r" ++ decimal v
+
+-- a sound, as `voice start length tone`
+abbrev pub spelled-sound : ℕ × Heard → List ℕ
+spelled-sound x =
+    decimal (x .0) ++ (codes " " ++ (decimal (x .1 .start) ++ (codes " " ++ (decimal (x .1 .long) ++ (codes " " ++ decimal (x .1 .high))))))
+
+-- a row, the first behind `lead` and each that follows behind `between`
+unfoldable pub spelled-row : {A : Type 0} → (A → List ℕ) → List ℕ → List ℕ → List A → List ℕ
+spelled-row f lead between [] = []
+spelled-row f lead between (x ∷ xs) = lead ++ (f x ++ spelled-row f between between xs)
