@@ -44,7 +44,22 @@ count-more n v m e =
     let c = more-below (n % 192 / 3) v (omega arith) e in
     omega arith
 
--- so any row of values has as many as that at least
+-- three values are enough below a whole note
+few-test : ℕ → Bool
+few-test n = leb (count n) 3
+
+few-table : each-below few-test 192 ≡ true
+unfolding each-below few-test count pieces largest
+few-table = refl
+
+pub count-few : (n : ℕ) → count n ≤ n / 192 + 3
+unfolding few-test
+count-few n =
+    let a : count n ≡ n / 192 + count (n % 192) = ap count (omega arith) ∙ count-wholes (n / 192) (n % 192) in
+    let b = leb-true (count (n % 192)) 3 (each-at few-test 192 (n % 192) few-table (omega arith)) in
+    omega arith
+
+-- any row of values has as many at least
 pub count-least : (vs : List ℕ) → all-are vs ≡ true → (sum-of vs % 3 ≡ 0) × (count (sum-of vs) ≤ length vs)
 unfolding all-are sum-of count pieces
 count-least [] h = (refl, omega arith)

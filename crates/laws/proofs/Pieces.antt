@@ -114,7 +114,7 @@ pieces-fuel (suc j) (suc k) n h g = go (largest n all-values) (value-some n) (λ
     go (suc v) f ih = let q = f (λ z. omega arith) in ap (λ (vs : List ℕ). pick (eqb (suc v) 0) [] (suc v ∷ vs)) (ih (suc v) (omega arith) (omega arith))
 
 -- the first value, and what is left
-pieces-first : (n v : ℕ) → v ≡ largest n all-values → (v ≡ 0 → ⊥) → pieces n n ≡ v ∷ pieces (n - v) (n - v)
+pub pieces-first : (n v : ℕ) → v ≡ largest n all-values → (v ≡ 0 → ⊥) → pieces n n ≡ v ∷ pieces (n - v) (n - v)
 unfolding pieces
 pieces-first zero v e ne = absurd (let f = value-some 0 (λ z. ne (e ∙ z)) in omega arith)
 pieces-first (suc n) v e ne =
@@ -128,6 +128,13 @@ pieces-next n v p m e = let f = value-in n p m in pieces-first n v e (λ z. omeg
 
 pub pieces-whole : (n : ℕ) → 192 ≤ n → pieces n n ≡ 192 ∷ pieces (n - 192) (n - 192)
 pieces-whole n h = pieces-first n 192 (sym (largest-whole n h)) (λ z. omega arith)
+
+pub pieces-none : (n : ℕ) → n < 3 → pieces n n ≡ []
+unfolding pieces largest
+pieces-none zero h = refl
+pieces-none (suc zero) h = refl
+pieces-none (suc (suc zero)) h = refl
+pieces-none (suc (suc (suc n))) h = absurd (omega arith)
 
 abbrev pub Begins : List ℕ → Type 0
 Begins xs = (v : ℕ) × (vs : List ℕ) × (xs ≡ v ∷ vs)

@@ -1,0 +1,89 @@
+-- The table of values searched from the front, and values written one after another. Assumes nothing.
+use mathlib.Core.Path.{_≡_, refl, sym, ap, ap₂, _∙_}
+use mathlib.Core.Logic.{_⊎_, inl, inr}
+use mathlib.Core.List.{List, _++_, append-assoc, append-nil}
+use Prim.Native.Nat.{ℕ, _+_, _-_, _/_, _%_, _≤_, _<_}
+use native.Mathlib.Omega.{arith}
+use lib.ListN.{length, drop, take, getD, set, length-append}
+use Rattle.std.proofs.shelf.Tests.{le-leb, lt-leb, cases-eq}
+use Rattle.std.proofs.shelf.Lists.{drop-more, drop-all, drop-drop, take-more-set, drop-set-lt, take-append-drop, length-take-le, length-set}
+use Rattle.score.specs.Print.{all-values, largest, pieces}
+use Rattle.score.proofs.Picks.{pick-true, pick-false}
+use Rattle.laws.proofs.Pieces.{value-none, value-good, value-some, pieces-first, pieces-none}
+use Rattle.laws.proofs.Few.{count, count-few}
+
+-- the first value that fits is the largest
+largest-here : (vs : List ℕ) (k n : ℕ) → k < length vs → getD vs k 0 ≤ n → largest n (drop k vs) ≡ getD vs k 0
+unfolding largest
+largest-here vs k n h le = rw (drop-more vs k 0 h) (pick-true _ _ _ (le-leb _ _ le))
+
+pub largest-later : (vs : List ℕ) (k n : ℕ) → k < length vs → n < getD vs k 0 → largest n (drop k vs) ≡ largest n (drop (k + 1) vs)
+unfolding largest
+largest-later vs k n h lt = rw (drop-more vs k 0 h) (pick-false _ _ _ (lt-leb _ _ lt))
+
+largest-no : (vs : List ℕ) (k n : ℕ) → length vs ≤ k → largest n (drop k vs) ≡ 0
+unfolding largest
+largest-no vs k n h = rw (drop-all k vs h) refl
+
+-- what a search that found v says of it
+pub record Found (n v : ℕ) : Type 0 where
+  pub is : v ≡ largest n all-values
+  pub within : v ≤ n
+  pub small : v ≤ 192
+  pub three : v % 3 ≡ 0
+  pub some : 3 ≤ n → 0 < v
+
+found : (n v : ℕ) → v ≡ largest n all-values → Found n v
+found n v e = go (cases-eq (largest n all-values) 0)
+  where
+    go : (largest n all-values ≡ 0) ⊎ (largest n all-values ≡ 0 → ⊥) → Found n v
+    go (inl z) = record { is = e; within = omega arith; small = omega arith; three = ap (λ (x : ℕ). x % 3) (e ∙ z); some = (λ h. absurd (omega (arith, value-none n z))) }
+    go (inr f) =
+        let g = value-some n f in
+        let w = value-good (largest n all-values) (g .3) in
+        record { is = e; within = omega arith; small = omega arith; three = ap (λ (x : ℕ). x % 3) e ∙ g .2; some = (λ h. omega arith) }
+
+pub found-here : (k n : ℕ) → k < 12 → getD all-values k 0 ≤ n → largest n (drop k all-values) ≡ largest n all-values → Found n (getD all-values k 0)
+found-here k n h le e = found n (getD all-values k 0) (sym (largest-here all-values k n h le) ∙ e)
+
+pub found-none : (k n : ℕ) → 12 ≤ k → largest n (drop k all-values) ≡ largest n all-values → Found n 0
+found-none k n h e = found n 0 (sym (largest-no all-values k n h) ∙ e)
+
+-- Values written over the front of a row that was lent: what is written and what is still owed is all of it, and the rest is as it was.
+pub record Writing (n at left : ℕ) (was out : List ℕ) : Type 0 where
+  pub front : take at out ++ pieces left left ≡ pieces n n
+  pub back : drop at out ≡ drop at was
+  pub within : at ≤ length out
+
+pub start : (n : ℕ) (out : List ℕ) → Writing n 0 n out out
+start n out = record { front = refl; back = refl; within = omega arith }
+
+-- there is room for the next value
+pub room : (n at left : ℕ) (was out : List ℕ) → Writing n at left was out → n / 192 + 3 ≤ length out → 3 ≤ left → at < length out
+unfolding count
+room n at left was out w h l =
+    let f = value-some left (λ z. omega (arith, value-none left z)) in
+    let e : length (take at out) + length (pieces left left) ≡ length (pieces n n) = sym (length-append (take at out) (pieces left left)) ∙ ap length (w .front) in
+    let t = length-take-le at out (w .within) in
+    let p = ap length (pieces-first left (largest left all-values) refl (λ z. omega arith)) in
+    omega (arith, count-few n)
+
+-- and once it is written, what is left is owed
+pub write : (n at left v : ℕ) (was out : List ℕ) → Writing n at left was out → at < length out → 3 ≤ left → v ≡ largest left all-values → Writing n (at + 1) (left - v) was (set out at v)
+write n at left v was out w h l e =
+    let f = value-some left (λ z. omega (arith, value-none left z)) in
+    let lt : at < at + 1 = omega arith in
+    record {
+      front = rw (take-more-set out at v h, append-assoc) (sym (ap (λ (xs : List ℕ). take at out ++ xs) (pieces-first left v e (λ z. omega arith))) ∙ w .front);
+      back = rw (drop-set-lt, ← drop-drop 1 at out, ← drop-drop 1 at was) (ap (drop 1) (w .back));
+      within = simp length-set (omega arith);
+    }
+
+pub done : (n at left : ℕ) (was out : List ℕ) → Writing n at left was out → left < 3 → (out ≡ pieces n n ++ drop at was) × (at ≡ length (pieces n n))
+done n at left was out w h = (
+  sym (take-append-drop at out) ∙ ap₂ (λ (xs ys : List ℕ). xs ++ ys) all (w .back),
+  sym (length-take-le at out (w .within)) ∙ ap length all,
+)
+  where
+    all : take at out ≡ pieces n n
+    all = sym (append-nil (take at out)) ∙ ap (λ (xs : List ℕ). take at out ++ xs) (sym (pieces-none left h)) ∙ w .front

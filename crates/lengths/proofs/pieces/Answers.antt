@@ -1,0 +1,31 @@
+use Prim.Native.Nat.{_<_}
+use native.Mathlib.Omega.{arith}
+use lib.ListN.{length}
+use Rattle.lengths.proofs.Drawing.{start, room, write, done}
+use Rattle.lengths.proofs.pieces.Needs as need
+use Rattle.lengths.proofs.pieces.Needs.{After-largest-value}
+
+pub loop-left-holds : need.loop-left-holds
+loop-left-holds c = start (c .args .n) (c .args .out .now)
+
+-- there is room for the value that was found
+fits : (c : After-largest-value) → c .loop-left .at < length (c .loop-left .out)
+fits c = room (c .args .n) (c .loop-left .at) (c .loop-left .left) (c .args .out .now) (c .loop-left .out) (c .loop-left .inv) (omega arith) (c .loop-left-test .taken)
+
+pub offset-out-at : need.offset-out-at
+offset-out-at c = let h = fits c in omega arith
+
+pub index-out-at : need.index-out-at
+index-out-at c = fits c
+
+pub add-at : need.add-at
+add-at c = let h = fits c in omega arith
+
+pub loop-left-again : need.loop-left-again
+loop-left-again c =
+    write (c .args .n) (c .loop-left .at) (c .loop-left .left) (c .largest-value .result) (c .args .out .now) (c .loop-left .out) (c .loop-left .inv) (fits c) (c .loop-left-test .taken) (c .largest-value .ensures .is)
+
+pub returns : need.returns
+returns c =
+    let d = done (c .args .n) (c .loop-left .at) (c .loop-left .left) (c .args .out .now) (c .loop-left .out) (c .loop-left .inv) (c .loop-left-test .left) in
+    record { wrote = d .0; many = d .1 }

@@ -1,0 +1,58 @@
+//! A length in values, and how much of it lies in a bar: what the engraving of an event stands on.
+ghost use mathlib.Core.List.{_++_};
+ghost use mathlib.Core.Path.{_≡_};
+ghost use Prim.Native.Nat.{_+_, _-_, _/_, _%_, _<_, _≤_};
+ghost use lib.ListN.{length, drop};
+ghost use Rattle.score.specs.Print.{all-values, lesser};
+ghost use Rattle.score.specs.Print.{largest as largest-of};
+ghost use Rattle.score.specs.Print.{pieces as pieces-of};
+
+/// The values that can be drawn, in ticks: from the whole note down to the sixty-fourth, plain or with a dot.
+pub const VALUES: [u32; 12] = [192, 144, 96, 72, 48, 36, 24, 18, 12, 9, 6, 3];
+
+/// The shortest of them.
+const SHORTEST: u32 = 3;
+
+/// The largest value that is not longer than `n`, or 0 where there is none.
+pub fn largest(n: u32) -> u32
+    ensures is { λ r. ⌜ r ≡ largest-of n all-values ⌝ }
+    ensures within { λ r. ⌜ r ≤ n ⌝ ∗ ⌜ r ≤ 192 ⌝ }
+    ensures three { λ r. ⌜ r % 3 ≡ 0 ⌝ }
+    ensures some { λ r. ⌜ (3 ≤ n → 0 < r) ⌝ }
+{
+    for v in VALUES {
+        if v <= n {
+            return v;
+        }
+    }
+    0
+}
+
+/// How much of what is left of an event lies in a bar of `measure` ticks, of which `begun` are gone.
+pub fn part_in_bar(left: u32, measure: u32, begun: u32) -> u32
+    requires { ⌜ begun ≤ measure ⌝ }
+    ensures is { λ r. ⌜ r ≡ lesser left (measure - begun) ⌝ }
+    ensures within { λ r. ⌜ r ≤ left ⌝ ∗ ⌜ begun + r ≤ measure ⌝ }
+    ensures some { λ r. ⌜ (0 < left → begun < measure → 0 < r) ⌝ }
+    ensures three { λ r. ⌜ (left % 3 ≡ 0 → measure % 3 ≡ 0 → begun % 3 ≡ 0 → r % 3 ≡ 0) ⌝ }
+{
+    left.min(measure - begun)
+}
+
+/// Writes a length within one bar as values, the largest first, over the front of `out`, and returns how many they are. Three values are enough for
+/// what is shorter than a whole note.
+pub fn pieces(n: u32, out: &mut [u32]) -> usize
+    requires { ⌜ n / 192 + 3 ≤ length (now out) ⌝ }
+    ensures wrote { λ r. ⌜ now (out .exit) ≡ pieces-of n n ++ drop r (now (out .entry)) ⌝ }
+    ensures many { λ r. ⌜ r ≡ length (pieces-of n n) ⌝ }
+{
+    let mut left = n;
+    let mut at = 0;
+    while left >= SHORTEST {
+        let value = largest(left);
+        out[at] = value;
+        left -= value;
+        at += 1;
+    }
+    at
+}
