@@ -1,0 +1,4 @@
+pub mod Keeps
+pub mod Player
+pub mod Told
+pub mod Symbols
