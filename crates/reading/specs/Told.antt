@@ -5,12 +5,16 @@ use Rattle.std.specs.declared.option.Option.{Option}
 use Rattle.std.specs.declared.option.Option.the-variants.{Some, None}
 use Rattle.score.specs.Music as music
 use Rattle.reading.specs.declared.Heard.{Heard}
+use Rattle.reading.specs.declared.player.Held.{Held}
 use Rattle.reading.specs.declared.player.Player.{Player}
 use Rattle.reading.specs.Keeps.{held-meant}
 use Rattle.reading.specs.Player.{State}
 
+abbrev pub state-of : ℕ → Held → List ℕ → State
+state-of t h hs = record { time = t; holds = hs; note = held-meant h }
+
 abbrev pub state : Player → List ℕ → State
-state p hs = record { time = p .time; holds = hs; note = held-meant (p .held) }
+state p hs = state-of (p .time) (p .held) hs
 
 abbrev pub heard-meant : Heard → music.Heard
 heard-meant h = record { start = h .start; long = h .length; high = h .tone }

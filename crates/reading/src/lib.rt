@@ -1,18 +1,18 @@
 //! The reader: symbols and a key in, notes out. It knows nothing of voices.
 ghost use mathlib.Core.Bool.{true};
-ghost use mathlib.Core.List.{[], _++_};
+ghost use mathlib.Core.List.{[], _++_, map};
 ghost use mathlib.Core.Path.{_≡_};
-ghost use Prim.Native.Nat.{_+_, _≤_, _<_, _^_};
-ghost use lib.ListN.{length, drop};
+ghost use Prim.Native.Nat.{_+_, _*_, _≤_, _<_, _^_};
+ghost use lib.ListN.{length, take, drop};
 ghost use Rattle.std.specs.Options.{mapped};
 ghost use Rattle.score.specs.Meaning.{symbol-meant};
 ghost use Rattle.score.specs.Music.{pick, places, tone as tone-of};
-ghost use Rattle.score.specs.Print.{nothing, let-go, goes-on, longer as made-longer};
+ghost use Rattle.score.specs.Print.{nothing, let-go, goes-on, longer as made-longer, read-from};
 ghost use Rattle.wire.specs.Reading.{symbol-of};
 ghost use Rattle.reading.specs.Keeps.{held-meant, long-of};
 ghost use Rattle.reading.specs.Player.{said, then-held, after, after-head, ends, ends-head, lasts, can-play};
-ghost use Rattle.reading.specs.Symbols.{playable};
-ghost use Rattle.reading.specs.Told.{state, notes, listed};
+ghost use Rattle.reading.specs.Symbols.{playable, symbols-of, outcome};
+ghost use Rattle.reading.specs.Told.{state, heard-meant, notes, listed};
 use keys::PLACES;
 use keys::begin_bar;
 use score::Symbol;
@@ -238,4 +238,56 @@ fn write_both(heard: &mut [Heard], first: Option<Heard>, second: Option<Heard>) 
 {
     let at = write_note(heard, first);
     at + write_note(&mut heard[at..], second)
+}
+
+/// How far a reader came: so many notes were heard, and so many bytes were read.
+#[derive(Clone, Copy)]
+struct Reached {
+    notes: usize,
+    bytes: usize,
+}
+
+/// All symbols are played, up to the first that cannot be.
+fn play_row(bytes: &[u8], signature: u32, holds: &mut [u32], heard: &mut [Heard]) -> Reached
+    requires row { ⌜ length (now holds) ≡ places ⌝ }
+    requires long { ⌜ length (now bytes) ≤ 2 ^ 40 ⌝ }
+    requires room { ⌜ length (read-from signature (symbols-of (now bytes))) ≤ length (now heard) ⌝ }
+    ensures notes { λ r. ⌜ r .notes ≡ length (read-from signature (symbols-of (now (bytes .entry)))) ⌝ }
+    ensures wrote { λ r. ⌜ map heard-meant (take (r .notes) (now (heard .exit))) ≡ read-from signature (symbols-of (now (bytes .entry))) ⌝ }
+    ensures rest { λ r. ⌜ drop (r .notes) (now (heard .exit)) ≡ drop (r .notes) (now (heard .entry)) ⌝ }
+    ensures bytes { λ r. ⌜ r .bytes ≡ 5 * length (symbols-of (now (bytes .entry))) ⌝ }
+{
+    begin_bar(signature, holds);
+    let mut player = Player {
+        time: 0,
+        held: Held::Nothing,
+    };
+    let mut notes = 0;
+    let mut at = 0;
+    'symbols: while let Some(symbol) = next_symbol(&bytes[at..]) {
+        let played = play(player, symbol, signature, holds);
+        notes += write_both(&mut heard[notes..], played.first, played.second);
+        player = played.player;
+        at += 5;
+    }
+    notes += write_note(&mut heard[notes..], player.held.let_go());
+    Reached { notes, bytes: at }
+}
+
+/// What is heard by who reads a row of symbols in a key, and knows nothing else: the notes are written down, and it is said how many they are.
+/// Where a symbol cannot be played, as its kind, place or sign is unknown or its bytes are too few, reading ends, and it is said at which byte.
+pub fn read(bytes: &[u8], signature: u32, heard: &mut [Heard]) -> Result<usize, usize>
+    requires long { ⌜ length (now bytes) ≤ 2 ^ 40 ⌝ }
+    requires room { ⌜ length (read-from signature (symbols-of (now bytes))) ≤ length (now heard) ⌝ }
+    ensures said { λ r. ⌜ r ≡ outcome signature (now (bytes .entry)) ⌝ }
+    ensures wrote { λ _. ⌜ map heard-meant (take (length (read-from signature (symbols-of (now (bytes .entry))))) (now (heard .exit))) ≡ read-from signature (symbols-of (now (bytes .entry))) ⌝ }
+    ensures rest { λ _. ⌜ drop (length (read-from signature (symbols-of (now (bytes .entry))))) (now (heard .exit)) ≡ drop (length (read-from signature (symbols-of (now (bytes .entry))))) (now (heard .entry)) ⌝ }
+{
+    let mut holds = [0; PLACES];
+    let reached = play_row(bytes, signature, &mut holds, heard);
+    if reached.bytes < bytes.len() {
+        Err(reached.bytes)
+    } else {
+        Ok(reached.notes)
+    }
 }

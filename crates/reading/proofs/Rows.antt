@@ -1,0 +1,47 @@
+-- The first symbol of a row of bytes, and those behind it. Assumes nothing.
+use mathlib.Core.Path.{_≡_, refl, sym, ap, _∙_, subst}
+use mathlib.Core.Bool.{Bool, true, false}
+use mathlib.Core.List.{List, [], _∷_}
+use Prim.Native.Nat.{ℕ, _+_, _*_, _≤_, _<_}
+use native.Mathlib.Omega.{arith}
+use lib.ListN.{length, drop, getD}
+use Rattle.std.specs.declared.option.Option.{Option}
+use Rattle.std.specs.declared.option.Option.the-variants.{Some, None}
+use Rattle.score.specs.Music.{pick}
+use Rattle.score.specs.Print.{Symbol, bar, head, rest}
+use Rattle.wire.specs.Reading.{of-two, symbol-by, symbol-of}
+use Rattle.reading.specs.Player.{can-play}
+use Rattle.reading.specs.Symbols.{playable, before, symbols-of}
+
+-- a symbol that was found can be played
+can : (o : Option Symbol) (x : Symbol) → Some x ≡ playable o → can-play x ≡ true
+can None x e = let z : _≡_ {A = ℕ} 0 1 = cc in absurd (omega arith)
+can (Some w) x e = go (can-play w) refl e
+  where
+    go : (c : Bool) → can-play w ≡ c → Some x ≡ pick c (Some w) None → can-play x ≡ true
+    go true p e = let q : x ≡ w = cc in ap can-play q ∙ p
+    go false p e = let z : _≡_ {A = ℕ} 0 1 = cc in absurd (omega arith)
+
+pub record Found (bs : List ℕ) (x : Symbol) : Type 0 where
+  pub plays : can-play x ≡ true
+  pub five : 5 ≤ length bs
+  pub row : symbols-of bs ≡ x ∷ symbols-of (drop 5 bs)
+
+pub found : (bs : List ℕ) (x : Symbol) → Some x ≡ playable (symbol-of bs) → Found bs x
+unfolding symbols-of
+found [] x e = let z : _≡_ {A = ℕ} 0 1 = cc in absurd (omega arith)
+found (k ∷ []) x e = let z : _≡_ {A = ℕ} 0 1 = cc in absurd (omega arith)
+found (k ∷ (p ∷ [])) x e = let z : _≡_ {A = ℕ} 0 1 = cc in absurd (omega arith)
+found (k ∷ (p ∷ (s ∷ []))) x e = let z : _≡_ {A = ℕ} 0 1 = cc in absurd (omega arith)
+found (k ∷ (p ∷ (s ∷ (l ∷ [])))) x e = let z : _≡_ {A = ℕ} 0 1 = cc in absurd (omega arith)
+found (k ∷ (p ∷ (s ∷ (l ∷ (h ∷ bs))))) x e = record { plays = can (symbol-by k p s (of-two l h)) x e; five = omega arith; row = ap (λ (o : Option Symbol). before o (symbols-of bs)) (sym e) }
+
+-- where none was found, there are no more
+pub none : (bs : List ℕ) → None ≡ playable (symbol-of bs) → symbols-of bs ≡ []
+unfolding symbols-of
+none [] e = refl
+none (k ∷ []) e = refl
+none (k ∷ (p ∷ [])) e = refl
+none (k ∷ (p ∷ (s ∷ []))) e = refl
+none (k ∷ (p ∷ (s ∷ (l ∷ [])))) e = refl
+none (k ∷ (p ∷ (s ∷ (l ∷ (h ∷ bs))))) e = ap (λ (o : Option Symbol). before o (symbols-of bs)) (sym e)
