@@ -2,18 +2,18 @@
 use mathlib.Core.Path.{_≡_, refl, sym, ap, ap₂, _∙_, subst}
 use mathlib.Core.Logic.{_⊎_, inl, inr}
 use mathlib.Core.Bool.{true}
-use mathlib.Core.List.{List, [], _∷_, _++_, append-assoc}
-use Prim.Native.Nat.{ℕ, zero, suc, _+_, _*_, _-_, _%_, _≤_, _<_}
+use mathlib.Core.List.{List, [], _∷_, _++_}
+use Prim.Native.Nat.{ℕ, zero, suc, _+_, _*_, _%_, _≤_, _<_}
 use native.Mathlib.Omega.{arith}
-use native.Mathlib.Nat.{mod-eq-of-lt, add-assoc, add-zero, mul-le-mul-right}
+use native.Mathlib.Nat.{mul-le-mul-right}
 use lib.ListN.{length, getD}
 use Rattle.std.proofs.shelf.Tests.{and-parts, cases-lt}
 use Rattle.score.specs.Music.{Event, note, silence, lasts, total, all-fine}
-use Rattle.score.specs.Print.{Symbol, bar, head, rest, key, pieces, Chunk, value, line, as-values, chunks, heads, rests, print, printed}
-use Rattle.score.specs.Promise.{Bars-full, lengths, sum-of}
+use Rattle.score.specs.Print.{Symbol, bar, head, rest, key, Chunk, value, line, chunks, heads, rests, print, printed}
+use Rattle.score.specs.Promise.{Bars-full, lengths}
 use Rattle.laws.proofs.Events.{fine-lasts}
-use Rattle.laws.proofs.Pieces.{pieces-sum}
-use Rattle.laws.proofs.Laid.{laid, span, span-++, span-chunks, next-below, next-three, next-over}
+use Rattle.laws.specs.Laying.{span, Lies-well}
+use Rattle.laws.proofs.Laid.{span-++, span-chunks, lies-chunks, next-below, next-three}
 
 -- symbols without their places, signs and ties: values and lines
 unfoldable pub marks : List Symbol → List Chunk
@@ -47,45 +47,19 @@ marks-print k b o st (note p a d ∷ es) =
 marks-print k b o st (silence d ∷ es) =
     marks-rests (chunks (suc d) b o d) _ ∙ ap (λ (r : List Chunk). chunks (suc d) b o d ++ r) (marks-print k b ((o + d) % b) _ es)
 
--- from tick t of a bar on, a line stands where the bar is full, and what is behind the last line is less than a bar
-unfoldable pub Full : ℕ → ℕ → List Chunk → Type 0
-Full b t [] = t < b
-Full b t (value v ∷ cs) = Full b (t + v) cs
-Full b t (line ∷ cs) = (t ≡ b) × Full b 0 cs
-
-full-values : (b t : ℕ) (vs : List ℕ) (cs : List Chunk) → Full b (t + sum-of vs) cs → Full b t (as-values vs ++ cs)
-unfolding Full as-values sum-of
-full-values b t [] cs h = subst (λ (n : ℕ). Full b n cs) (add-zero t) h
-full-values b t (v ∷ vs) cs h = full-values b (t + v) vs cs (subst (λ (n : ℕ). Full b n cs) (sym (add-assoc t v (sum-of vs))) h)
-
-pub full-chunks : (k b o d : ℕ) (cs : List Chunk) → d < k → o < b → b % 3 ≡ 0 → o % 3 ≡ 0 → d % 3 ≡ 0 → Full b ((o + d) % b) cs → Full b o (chunks k b o d ++ cs)
-unfolding Full
-full-chunks zero b o d cs f h b3 o3 d3 w = absurd (omega arith)
-full-chunks (suc k) b o d cs f h b3 o3 d3 w =
-    laid (λ (c : List Chunk). Full b o (c ++ cs)) k b o d h
-    (λ z. subst (λ (n : ℕ). Full b n cs) (none z) w)
-    (λ p l. full-values b o (pieces d d) cs (subst (λ (n : ℕ). Full b n cs) (mod-eq-of-lt l ∙ ap (λ (x : ℕ). o + x) (sym (pieces-sum d d (omega arith) d3))) w))
-    (λ s p l e. subst (Full b o) (sym (append-assoc (as-values (pieces s s)) (line ∷ chunks k b 0 (d - s)) cs))
-    (full-values b o (pieces s s) (line ∷ (chunks k b 0 (d - s) ++ cs)) (
-      ap (λ (x : ℕ). o + x) (pieces-sum s s (omega arith) (omega arith)) ∙ e,
-      full-chunks k b 0 (d - s) cs (omega arith) (omega arith) b3 refl (omega arith) (subst (λ (n : ℕ). Full b n cs) (next-over b o d s l e) w),
-    )))
-  where
-    none : d ≡ 0 → (o + d) % b ≡ o
-    none z = let e : o + d ≡ o = omega arith in ap (λ (n : ℕ). n % b) e ∙ mod-eq-of-lt h
-
-full-lay : (b o : ℕ) (es : List Event) → o < b → b % 3 ≡ 0 → o % 3 ≡ 0 → all-fine es ≡ true → Full b o (lay b o es)
-unfolding Full lay all-fine
-full-lay b o [] h b3 o3 f = h
-full-lay b o (e ∷ es) h b3 o3 f =
-    full-chunks (suc (lasts e)) b o (lasts e) (lay b ((o + lasts e) % b) es) (omega arith) h b3 o3 (g .1)
-    (full-lay b ((o + lasts e) % b) es (next-below b (o + lasts e) (omega arith)) b3 (next-three b (o + lasts e) b3 (omega (arith, g .1))) (and-parts _ _ f .1))
+-- what is printed lies well
+lies-lay : (b o : ℕ) (es : List Event) → o < b → b % 3 ≡ 0 → o % 3 ≡ 0 → all-fine es ≡ true → Lies-well b o (lay b o es)
+unfolding Lies-well lay all-fine
+lies-lay b o [] h b3 o3 f = h
+lies-lay b o (e ∷ es) h b3 o3 f =
+    lies-chunks (suc (lasts e)) b o (lasts e) (lay b ((o + lasts e) % b) es) (omega arith) h b3 o3 (g .1)
+    (lies-lay b ((o + lasts e) % b) es (next-below b (o + lasts e) (omega arith)) b3 (next-three b (o + lasts e) b3 (omega (arith, g .1))) (and-parts _ _ f .1))
   where
     g : (0 < lasts e) × (lasts e % 3 ≡ 0)
     g = fine-lasts e (and-parts _ _ f .0)
 
-pub full-print : (k b o : ℕ) (st : ℕ → ℕ) (es : List Event) → o < b → b % 3 ≡ 0 → o % 3 ≡ 0 → all-fine es ≡ true → Full b o (marks (print k b o st es))
-full-print k b o st es h b3 o3 f = subst (Full b o) (sym (marks-print k b o st es)) (full-lay b o es h b3 o3 f)
+pub lies-print : (k b o : ℕ) (st : ℕ → ℕ) (es : List Event) → o < b → b % 3 ≡ 0 → o % 3 ≡ 0 → all-fine es ≡ true → Lies-well b o (marks (print k b o st es))
+lies-print k b o st es h b3 o3 f = subst (Lies-well b o) (sym (marks-print k b o st es)) (lies-lay b o es h b3 o3 f)
 
 -- so the bars are as long as they should be
 lengths-some : (xs : List Symbol) (t : ℕ) → 0 < length (lengths xs t)
@@ -95,17 +69,17 @@ lengths-some (bar ∷ xs) t = omega arith
 lengths-some (head p s v w ∷ xs) t = lengths-some xs (t + v)
 lengths-some (rest v ∷ xs) t = lengths-some xs (t + v)
 
-full-lengths : (b t : ℕ) (xs : List Symbol) (i : ℕ) → Full b t (marks xs) → (suc i < length (lengths xs t) → getD (lengths xs t) i 0 ≡ b) × (suc i ≡ length (lengths xs t) → getD (lengths xs t) i 0 < b)
-unfolding lengths marks Full
-full-lengths b t [] zero h = (λ l. absurd (omega arith), λ _. h)
-full-lengths b t [] (suc i) h = (λ l. absurd (omega arith), λ l. absurd (omega arith))
-full-lengths b t (bar ∷ xs) zero h = (λ l. h .0, λ l. absurd (omega (arith, lengths-some xs 0)))
-full-lengths b t (bar ∷ xs) (suc i) h = let ih = full-lengths b 0 xs i (h .1) in (λ l. ih .0 (omega arith), λ l. ih .1 (omega arith))
-full-lengths b t (head p s v w ∷ xs) i h = full-lengths b (t + v) xs i h
-full-lengths b t (rest v ∷ xs) i h = full-lengths b (t + v) xs i h
+lies-lengths : (b t : ℕ) (xs : List Symbol) (i : ℕ) → Lies-well b t (marks xs) → (suc i < length (lengths xs t) → getD (lengths xs t) i 0 ≡ b) × (suc i ≡ length (lengths xs t) → getD (lengths xs t) i 0 < b)
+unfolding lengths marks Lies-well
+lies-lengths b t [] zero h = (λ l. absurd (omega arith), λ _. h)
+lies-lengths b t [] (suc i) h = (λ l. absurd (omega arith), λ l. absurd (omega arith))
+lies-lengths b t (bar ∷ xs) zero h = (λ l. h .0, λ l. absurd (omega (arith, lengths-some xs 0)))
+lies-lengths b t (bar ∷ xs) (suc i) h = let ih = lies-lengths b 0 xs i (h .1) in (λ l. ih .0 (omega arith), λ l. ih .1 (omega arith))
+lies-lengths b t (head p s v w ∷ xs) i h = lies-lengths b (t + v) xs i (h .2)
+lies-lengths b t (rest v ∷ xs) i h = lies-lengths b (t + v) xs i (h .2)
 
 pub bars-full : Bars-full
-bars-full k b i es h b3 f = full-lengths b 0 (printed k b es) i (full-print k b 0 (key k) es h b3 refl f)
+bars-full k b i es h b3 f = lies-lengths b 0 (printed k b es) i (lies-print k b 0 (key k) es h b3 refl f)
 
 -- how many lines there are: as many as whole bars
 unfoldable pub lines : List Chunk → ℕ
@@ -113,11 +87,11 @@ lines [] = 0
 lines (value v ∷ cs) = lines cs
 lines (line ∷ cs) = suc (lines cs)
 
-full-lines : (b t : ℕ) (cs : List Chunk) → Full b t cs → (lines cs * b ≤ t + span cs) × (t + span cs < suc (lines cs) * b)
-unfolding lines Full span
-full-lines b t [] h = (omega arith, omega arith)
-full-lines b t (value v ∷ cs) h = let ih = full-lines b (t + v) cs h in (omega arith, omega arith)
-full-lines b t (line ∷ cs) h = let ih = full-lines b 0 cs (h .1) in (omega arith, omega arith)
+lies-lines : (b t : ℕ) (cs : List Chunk) → Lies-well b t cs → (lines cs * b ≤ t + span cs) × (t + span cs < suc (lines cs) * b)
+unfolding lines Lies-well span
+lies-lines b t [] h = (omega arith, omega arith)
+lies-lines b t (value v ∷ cs) h = let ih = lies-lines b (t + v) cs (h .2) in (omega arith, omega arith)
+lies-lines b t (line ∷ cs) h = let ih = lies-lines b 0 cs (h .1) in (omega arith, omega arith)
 
 span-lay : (b o : ℕ) (es : List Event) → o < b → b % 3 ≡ 0 → o % 3 ≡ 0 → all-fine es ≡ true → span (lay b o es) ≡ total es
 unfolding lay total span all-fine
@@ -134,7 +108,7 @@ pub lines-print : (k b : ℕ) (es : List Event) → 0 < b → b % 3 ≡ 0 → al
     (lines (marks (printed k b es)) * b ≤ total es) × (total es < suc (lines (marks (printed k b es))) * b)
 lines-print k b es h b3 f =
     let l : span (marks (printed k b es)) ≡ total es = ap span (marks-print k b 0 (key k) es) ∙ span-lay b 0 es h b3 refl f in
-    let w = full-lines b 0 (marks (printed k b es)) (full-print k b 0 (key k) es h b3 refl f) in
+    let w = lies-lines b 0 (marks (printed k b es)) (lies-print k b 0 (key k) es h b3 refl f) in
     (omega arith, omega arith)
 
 pub lines-enough : (k b n : ℕ) (es : List Event) → 0 < b → b % 3 ≡ 0 → all-fine es ≡ true → n * b ≤ total es → n ≤ lines (marks (printed k b es))

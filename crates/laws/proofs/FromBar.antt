@@ -10,8 +10,8 @@ use Rattle.std.proofs.shelf.Tests.{both-ways, cases-lt}
 use Rattle.score.specs.Music.{pick, Heard}
 use Rattle.score.specs.Print.{Symbol, bar, head, rest, key, printed, Held, nothing, held, let-go, goes-on, longer, altered, then-holds, reads, read-from, from-bar, so-many}
 use Rattle.score.specs.Promise.{From-a-bar, ends-free, no-tie-over, later}
-use Rattle.laws.proofs.Laid.{span}
-use Rattle.laws.proofs.Bars.{marks, Full, full-print, lines}
+use Rattle.laws.specs.Laying.{span, Lies-well}
+use Rattle.laws.proofs.Bars.{marks, lies-print, lines}
 use Rattle.laws.proofs.Reading.{went}
 
 -- what is read in two parts: as r is behind each of two rows, so it is behind what is made of them
@@ -56,13 +56,13 @@ read-split k (head p s v tied ∷ xs) n t st h free ok l e =
     behind st ih g o = ih g o ∙ ap (λ (x : ℕ). reads k ys (t + v) st g ++ reads k (from-bar (suc n) xs) x (key k) nothing) (add-assoc t v (span (marks ys)))
 
 -- bars that are full are as long as that
-so-many-long : (b t : ℕ) (xs : List Symbol) (n : ℕ) → Full b t (marks xs) → suc n ≤ lines (marks xs) → t + span (marks (so-many xs (suc n))) ≡ suc n * b
-unfolding lines marks so-many span Full
+so-many-long : (b t : ℕ) (xs : List Symbol) (n : ℕ) → Lies-well b t (marks xs) → suc n ≤ lines (marks xs) → t + span (marks (so-many xs (suc n))) ≡ suc n * b
+unfolding lines marks so-many span Lies-well
 so-many-long b t [] n h l = absurd (omega arith)
 so-many-long b t (bar ∷ xs) zero h l = omega (arith, h .0)
 so-many-long b t (bar ∷ xs) (suc n) h l = let ih : 0 + span (marks (so-many xs (suc n))) ≡ suc n * b = so-many-long b 0 xs n (h .1) (omega arith) in omega (arith, h .0)
-so-many-long b t (head p s v w ∷ xs) n h l = sym (add-assoc t v _) ∙ so-many-long b (t + v) xs n h l
-so-many-long b t (rest v ∷ xs) n h l = sym (add-assoc t v _) ∙ so-many-long b (t + v) xs n h l
+so-many-long b t (head p s v w ∷ xs) n h l = sym (add-assoc t v _) ∙ so-many-long b (t + v) xs n (h .2) l
+so-many-long b t (rest v ∷ xs) n h l = sym (add-assoc t v _) ∙ so-many-long b (t + v) xs n (h .2) l
 
 -- to read later is to hear later
 unfoldable pub held-later : ℕ → Held → Held
@@ -146,7 +146,7 @@ parted-few k b n xs few =
     sym (append-nil (read-from k xs))
     ∙ ap₂ (λ (x y : List Symbol). read-from k x ++ later (n * b) (read-from k y)) (sym (q .0)) (sym (q .1))
 
-parted-full : (k b n : ℕ) (xs : List Symbol) → Full b 0 (marks xs) → suc n ≤ lines (marks xs) → no-tie-over xs (suc n) ≡ true → Parted k b (suc n) xs
+parted-full : (k b n : ℕ) (xs : List Symbol) → Lies-well b 0 (marks xs) → suc n ≤ lines (marks xs) → no-tie-over xs (suc n) ≡ true → Parted k b (suc n) xs
 unfolding no-tie-over held-later
 parted-full k b n xs full l e =
     read-split k xs n 0 (key k) nothing true (λ _. refl) l e
@@ -160,4 +160,4 @@ from-a-bar k b (suc n) es h b3 f e = go (cases-lt (lines (marks (printed k b es)
   where
     go : (lines (marks (printed k b es)) < suc n) ⊎ (suc n ≤ lines (marks (printed k b es))) → Parted k b (suc n) (printed k b es)
     go (inl few) = parted-few k b (suc n) (printed k b es) few
-    go (inr enough) = parted-full k b n (printed k b es) (full-print k b 0 (key k) es h b3 refl f) enough e
+    go (inr enough) = parted-full k b n (printed k b es) (lies-print k b 0 (key k) es h b3 refl f) enough e

@@ -2,16 +2,17 @@
 use mathlib.Core.Path.{_≡_, refl, sym, ap, _∙_, subst}
 use mathlib.Core.Logic.{_⊎_, inl, inr}
 use mathlib.Core.Bool.{true, false}
-use mathlib.Core.List.{List, [], _∷_, _++_, append-nil}
+use mathlib.Core.List.{List, [], _∷_, _++_, append-nil, append-assoc}
 use Prim.Native.Nat.{ℕ, zero, suc, _+_, _-_, _%_, _≤_, _<_}
 use native.Mathlib.Omega.{arith}
-use native.Mathlib.Nat.{mod-lt, add-mod-left, mod-mod-of-dvd, dvd-of-mod-eq-zero}
+use native.Mathlib.Nat.{mod-lt, mod-eq-of-lt, add-mod-left, mod-mod-of-dvd, dvd-of-mod-eq-zero, add-zero, add-assoc}
 use lib.Dec.{leb, eqb}
-use Rattle.std.proofs.shelf.Tests.{eqb-true, eqb-false, leb-true, leb-false, le-leb}
-use Rattle.score.specs.Print.{pieces, Chunk, value, line, as-values, lesser, chunks, has-line}
-use Rattle.score.specs.Promise.{sum-of}
+use Rattle.std.proofs.shelf.Tests.{eqb-true, eqb-false, leb-true, leb-false, le-leb, and-parts}
+use Rattle.score.specs.Print.{all-values, pieces, Chunk, value, line, as-values, lesser, chunks, has-line}
+use Rattle.score.specs.Promise.{sum-of, is-value, all-are}
 use Rattle.score.proofs.Picks.{pick-true, pick-both}
-use Rattle.laws.proofs.Pieces.{Begins, pieces-sum, pieces-begin}
+use Rattle.laws.specs.Laying.{span, Lies-well, Lies-over-bars}
+use Rattle.laws.proofs.Pieces.{value-good, pieces-sum, pieces-are, Begins, pieces-begin}
 
 -- how much of a length lies in a bar
 pub lesser-is : (a b : ℕ) → ((a ≤ b) × (lesser a b ≡ a)) ⊎ ((b < a) × (lesser a b ≡ b))
@@ -57,12 +58,7 @@ laid P k b o d h none here over =
         some : 0 < d
         some = let n = eqb-false d 0 e in omega arith
 
--- how long chunks are: as long as what was laid
-unfoldable pub span : List Chunk → ℕ
-span [] = 0
-span (value v ∷ cs) = v + span cs
-span (line ∷ cs) = span cs
-
+-- chunks are as long as what was laid
 pub span-++ : (cs ds : List Chunk) → span (cs ++ ds) ≡ span cs + span ds
 unfolding span
 span-++ [] ds = omega arith
@@ -117,3 +113,40 @@ pub line-in : (vs : List ℕ) (cs : List Chunk) → has-line (as-values vs ++ (l
 unfolding has-line as-values
 line-in [] cs = refl
 line-in (v ∷ vs) cs = line-in vs cs
+
+-- a length lies well if what is laid behind it does
+lies-values : (b t : ℕ) (vs : List ℕ) (cs : List Chunk) → all-are vs ≡ true → t + sum-of vs ≤ b → Lies-well b (t + sum-of vs) cs → Lies-well b t (as-values vs ++ cs)
+unfolding Lies-well as-values sum-of all-are
+lies-values b t [] cs a l w = subst (λ (n : ℕ). Lies-well b n cs) (add-zero t) w
+lies-values b t (v ∷ vs) cs a l w =
+    let e = and-parts (is-value all-values v) (all-are vs) a in
+    let g = value-good v (e .0) in
+    (omega arith, e .0, lies-values b (t + v) vs cs (e .1) (omega arith) (subst (λ (n : ℕ). Lies-well b n cs) (sym (add-assoc t v (sum-of vs))) w))
+
+lies-pieces : (b t n : ℕ) (cs : List Chunk) → n % 3 ≡ 0 → t + n ≤ b → Lies-well b (t + n) cs → Lies-well b t (as-values (pieces n n) ++ cs)
+lies-pieces b t n cs m l w =
+    let e : n ≡ sum-of (pieces n n) = sym (pieces-sum n n (omega arith) m) in
+    lies-values b t (pieces n n) cs (pieces-are n n) (omega arith) (subst (λ (x : ℕ). Lies-well b (t + x) cs) e w)
+
+pub lies-chunks : (k b o d : ℕ) (cs : List Chunk) → d < k → o < b → b % 3 ≡ 0 → o % 3 ≡ 0 → d % 3 ≡ 0 → Lies-well b ((o + d) % b) cs → Lies-well b o (chunks k b o d ++ cs)
+unfolding Lies-well
+lies-chunks zero b o d cs f h b3 o3 d3 w = absurd (omega arith)
+lies-chunks (suc k) b o d cs f h b3 o3 d3 w =
+    laid (λ (c : List Chunk). Lies-well b o (c ++ cs)) k b o d h
+    (λ z. subst (λ (n : ℕ). Lies-well b n cs) (none z) w)
+    (λ p l. lies-pieces b o d cs d3 (omega arith) (subst (λ (n : ℕ). Lies-well b n cs) (mod-eq-of-lt l) w))
+    (λ s p l e. subst (Lies-well b o) (sym (append-assoc (as-values (pieces s s)) (line ∷ chunks k b 0 (d - s)) cs))
+    (lies-pieces b o s (line ∷ (chunks k b 0 (d - s) ++ cs)) (omega arith) (omega arith) (
+      e,
+      lies-chunks k b 0 (d - s) cs (omega arith) (omega arith) b3 refl (omega arith) (subst (λ (n : ℕ). Lies-well b n cs) (next-over b o d s l e) w),
+    )))
+  where
+    none : d ≡ 0 → (o + d) % b ≡ o
+    none z = let e : o + d ≡ o = omega arith in ap (λ (n : ℕ). n % b) e ∙ mod-eq-of-lt h
+
+pub lies-over-bars : Lies-over-bars
+unfolding Lies-well
+lies-over-bars b o d h b3 o3 d3 = (
+  subst (Lies-well b o) (append-nil (chunks (suc d) b o d)) (lies-chunks (suc d) b o d [] (omega arith) h b3 o3 d3 (next-below b (o + d) (omega arith))),
+  span-chunks (suc d) b o d (omega arith) h b3 o3 d3,
+)

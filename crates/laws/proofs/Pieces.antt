@@ -11,6 +11,7 @@ use Rattle.score.specs.Music.{pick}
 use Rattle.score.specs.Print.{all-values, largest, pieces}
 use Rattle.score.specs.Promise.{sum-of, is-value, all-are}
 use Rattle.score.proofs.Picks.{pick-true, pick-false, pick-both, eqb-same}
+use Rattle.laws.specs.Laying.{Comes-to}
 use Rattle.laws.proofs.Tables.{each-of, each-of-at}
 
 -- every value is some ticks long, at most a whole note, and a multiple of 3
@@ -93,6 +94,9 @@ pieces-are (suc k) n =
     pick-both (λ (vs : List ℕ). all-are vs ≡ true) (eqb (largest n all-values) 0) [] (largest n all-values ∷ pieces k (n - largest n all-values))
     (λ _. refl)
     (λ e. and-from _ _ (value-some n (eqb-false _ 0 e) .3) (pieces-are k (n - largest n all-values)))
+
+pub comes-to : Comes-to
+comes-to n m = (pieces-sum n n (omega arith) m, pieces-are n n)
 
 -- the bound on how many does not matter where it is large enough
 pub pieces-fuel : (j k n : ℕ) → n ≤ j → n ≤ k → pieces j n ≡ pieces k n

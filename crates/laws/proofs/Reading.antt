@@ -13,7 +13,8 @@ use Rattle.score.specs.Promise.{Reads-back}
 use Rattle.score.proofs.Picks.{pick-true, pick-both, pick-same, eqb-same}
 use Rattle.laws.specs.Owed.{sign-of, holding}
 use Rattle.laws.proofs.Events.{fine-lasts}
-use Rattle.laws.proofs.Laid.{span, span-chunks, Begun, chunks-begin, next-below, next-three}
+use Rattle.laws.specs.Laying.{span}
+use Rattle.laws.proofs.Laid.{span-chunks, Begun, chunks-begin, next-below, next-three}
 
 abbrev pub sound : ℕ → ℕ → ℕ → Heard
 sound s l h = record { start = s; long = l; high = h }

@@ -10,7 +10,8 @@ use Rattle.score.specs.Music.{Event, note, silence, lasts, tone, Heard, heard, 
 use Rattle.score.specs.Print.{Symbol, bar, head, rest, key, Chunk, value, line, chunks, has-line, has-value, heads, rests, now, print, nothing, altered, reads}
 use Rattle.score.specs.Promise.{Signs-needed, has-sign, without-sign}
 use Rattle.score.proofs.Picks.{pick-both}
-use Rattle.laws.proofs.Laid.{span, span-chunks, Begun, chunks-begin, next-below, next-three}
+use Rattle.laws.specs.Laying.{span}
+use Rattle.laws.proofs.Laid.{span-chunks, Begun, chunks-begin, next-below, next-three}
 use Rattle.laws.specs.Owed.{holding, sign-of}
 use Rattle.laws.proofs.Events.{fine-lasts}
 use Rattle.laws.proofs.Reading.{sound, read-note, read-rest, read-begun}

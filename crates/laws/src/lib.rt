@@ -1,6 +1,7 @@
 //! Laws of what is heard, printed and read. Each function here has no body to speak of: its contract is a theorem about the definitions in `score`,
 //! for every voice, score and call, and the proof that it cites stands in `proofs/`. Code crates cite the lemmas there.
 ghost use Rattle.score.specs.Promise.{Reads-back, From-a-bar, Bars-full, Signs-needed, Fewest, Bars-stay, Bars-after};
+ghost use Rattle.laws.specs.Laying.{Comes-to, Lies-over-bars};
 ghost use Rattle.score.specs.Promise.{Together-in-order, Nothing-lost, Turned-away, Undone};
 
 /// Who reads what is printed of a voice, in its key and with nothing else known, hears every note of the voice at its time, as long as it is and
@@ -27,6 +28,17 @@ pub fn signs_needed()
 /// A length is written in values that can be drawn and that come to it, and no row of values that comes to it is shorter.
 pub fn fewest()
     ensures { λ _. ⌜ Fewest ⌝ }
+{}
+
+/// A length of 3 ticks or a multiple of that comes to what it was, in values that can be drawn.
+pub fn comes_to()
+    ensures { λ _. ⌜ Comes-to ⌝ }
+{}
+
+/// A length laid over bar lines, from any tick of a bar on, comes to what it was: a bar line stands where a bar is full, and there only, and all
+/// else are values that can be drawn.
+pub fn lies_over_bars()
+    ensures { λ _. ⌜ Lies-over-bars ⌝ }
 {}
 
 /// Voices that begin with the same events are printed alike in all bars that these fill.

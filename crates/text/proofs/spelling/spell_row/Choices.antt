@@ -12,4 +12,4 @@ abbrev pub Inv-loop-item : given.InvT-loop-item
 Inv-loop-item g l =
     shadow (Utf8 (l .lead))
     × (string-bytes (l .out) ++ spelled-row (g .T·Spell .spelled) (l .lead) (l .between) (drop (l .item-index) (l .row))
-        ≡ string-bytes (l .entry .out) ++ spelled-row (g .T·Spell .spelled) [] (l .between) (l .row))
+    ≡ string-bytes (l .entry .out) ++ spelled-row (g .T·Spell .spelled) [] (l .between) (l .row))

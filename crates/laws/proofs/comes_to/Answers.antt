@@ -1,0 +1,6 @@
+-- The theorem is proved in proofs/Pieces.antt.
+use Rattle.laws.proofs.Pieces.{comes-to}
+use Rattle.laws.proofs.comes_to.Needs as need
+
+pub returns : need.returns
+returns c = comes-to
