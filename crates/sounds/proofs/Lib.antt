@@ -1,1 +1,5 @@
 pub mod Mixed
+pub mod Bits
+pub mod Slots
+pub mod Turns
+pub mod Rows
