@@ -3,3 +3,4 @@ pub mod Bits
 pub mod Slots
 pub mod Turns
 pub mod Rows
+pub mod Walks
