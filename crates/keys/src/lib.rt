@@ -1,7 +1,8 @@
 //! Keys: how a key alters the places, and what holds at each place where a bar begins.
 ghost use mathlib.Core.Path.{_≡_};
+ghost use Prim.Native.Nat.{_≤_, _<_};
 ghost use lib.ListN.{length};
-ghost use Rattle.score.specs.Music.{places};
+ghost use Rattle.score.specs.Music.{places, alterations, tone as tone-of};
 ghost use Rattle.score.specs.Print.{key};
 ghost use Rattle.keys.specs.Held.{key-row};
 
@@ -13,6 +14,19 @@ const STEPS: u32 = 7;
 
 /// The key without signs: those above it have sharps, those below it flats.
 const PLAIN: u32 = 7;
+
+/// Half tones in an octave, and from c up to each of its steps.
+const OCTAVE: u64 = 12;
+
+const HALF_TONES: [u64; 7] = [0, 2, 4, 5, 7, 9, 11];
+
+/// Which tone a place sounds when it is altered so, in half tones.
+pub fn tone(place: u32, alteration: u32) -> u64
+    ensures is { λ r. ⌜ r ≡ tone-of place alteration ⌝ }
+    ensures small { λ r. ⌜ (place < places → alteration < alterations → r < 128) ⌝ }
+{
+    OCTAVE * (place / STEPS) as u64 + HALF_TONES[(place % STEPS) as usize] + alteration as u64
+}
 
 /// How a key alters a place: 1 by a flat, 2 not, 3 by a sharp.
 pub fn altered_by_key(signature: u32, place: u32) -> u32

@@ -22,11 +22,13 @@ above k j m e =
 
 bit-other : (k j : ℕ) → (j ≡ k → ⊥) → bit (2 ^ k) j ≡ 0
 bit-other k j ne =
-    elim (cases-order j k)
-        [ inl e ↦ absurd (ne e)
-        | inr o ↦ elim o
-            [ inl lt ↦ above k j (k - j - 1) (omega arith)
-            | inr gt ↦ ap (λ n. n % 2) (div-eq-of-lt (pow-below k j gt)) ] ]
+    elim (cases-order j k) [
+      | inl e ↦ absurd (ne e)
+      | inr o ↦ elim o [
+        | inl lt ↦ above k j (k - j - 1) (omega arith)
+        | inr gt ↦ ap (λ n. n % 2) (div-eq-of-lt (pow-below k j gt))
+      ]
+    ]
 
 pub bit-zero : (k : ℕ) → bit 0 k ≡ 0
 bit-zero k = ap (λ n. n % 2) (zero-div (2 ^ k))
@@ -79,4 +81,4 @@ unfolding trailingZeros
 trailing-lowest zero n p h = absurd (omega arith)
 trailing-lowest (suc k) n p h =
     step-lowest (n % 2) n (trailingZeros k (n / 2)) refl (omega arith)
-        (λ z. trailing-lowest k (n / 2) (omega arith) (let e = pow-suc 2 k in omega arith))
+    (λ z. trailing-lowest k (n / 2) (omega arith) (let e = pow-suc 2 k in omega arith))

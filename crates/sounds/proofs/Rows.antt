@@ -118,11 +118,12 @@ begins-until u a e t [] h = refl
 begins-until u a e t (silence d ∷ es) h = begins-until u a e (t + d) es (omega arith)
 begins-until u a e t (note p q d ∷ es) h =
     let rest : begins u a e (heard es (t + d)) ≡ until u e (heard es (t + d)) = begins-until u a e (t + d) es (omega arith) in
-    elim (cases-lt t e)
-        [ inl l ↦
-        pick-true (leb a t && ltb t e) _ _ (and-from _ _ (le-leb _ _ h) (lt-ltb _ _ l))
-        ∙ ap (λ (r : Notes). (u, record { start = t; long = d; high = tone p q }) ∷ r) rest ∙ sym (pick-true (ltb t e) _ _ (lt-ltb _ _ l))
-        | inr l ↦ begins-late u a e t (note p q d ∷ es) l ∙ sym (pick-false (ltb t e) _ _ (le-ltb _ _ l)) ]
+    elim (cases-lt t e) [
+      | inl l ↦
+          pick-true (leb a t && ltb t e) _ _ (and-from _ _ (le-leb _ _ h) (lt-ltb _ _ l))
+          ∙ ap (λ (r : Notes). (u, record { start = t; long = d; high = tone p q }) ∷ r) rest ∙ sym (pick-true (ltb t e) _ _ (lt-ltb _ _ l))
+      | inr l ↦ begins-late u a e t (note p q d ∷ es) l ∙ sym (pick-false (ltb t e) _ _ (le-ltb _ _ l))
+    ]
 
 -- events that begin before the span are passed over
 begins-before : (u a e t : ℕ) (x : Event) (es : List Event) → t < a → begins u a e (heard (x ∷ es) t) ≡ begins u a e (heard es (t + lasts x))
@@ -139,13 +140,14 @@ begins-passed u a e t [] = refl
 begins-passed u a e t (x ∷ es) =
     let ih = begins-passed u a e (t + lasts x) es in
     let k = passed a (t + lasts x) (map lasts es) in
-    elim (cases-lt t a)
-        [ inl l ↦
-            begins-before u a e t x es l ∙ ih ∙ ap (λ (n : ℕ). until u e (heard (drop k es) n)) (omega arith)
-            ∙ ap (rest-from u e t (x ∷ es)) (sym (pick-true (ltb t a) (suc k) 0 (lt-ltb _ _ l)))
-        | inr l ↦
-            begins-until u a e t (x ∷ es) l ∙ ap (λ (n : ℕ). until u e (heard (x ∷ es) n)) (omega arith)
-            ∙ ap (rest-from u e t (x ∷ es)) (sym (pick-false (ltb t a) (suc k) 0 (le-ltb _ _ l))) ]
+    elim (cases-lt t a) [
+      | inl l ↦
+          begins-before u a e t x es l ∙ ih ∙ ap (λ (n : ℕ). until u e (heard (drop k es) n)) (omega arith)
+          ∙ ap (rest-from u e t (x ∷ es)) (sym (pick-true (ltb t a) (suc k) 0 (lt-ltb _ _ l)))
+      | inr l ↦
+          begins-until u a e t (x ∷ es) l ∙ ap (λ (n : ℕ). until u e (heard (x ∷ es) n)) (omega arith)
+          ∙ ap (rest-from u e t (x ∷ es)) (sym (pick-false (ltb t a) (suc k) 0 (le-ltb _ _ l)))
+    ]
 
 -- when its notes begin
 starts-until : (u e t : ℕ) (ps xs ds : List ℕ) → length xs ≡ length ps → starts (until u e (heard (voice-of ps xs ds) t)) ≡ note-ticks e t ps ds
@@ -157,18 +159,21 @@ starts-until u e t (p ∷ ps) (x ∷ xs) (d ∷ ds) h = go (eqb p places) (start
   where
     es : List Event
     es = voice-of ps xs ds
+
     go :
         (b : Bool) → starts (until u e (heard es (t + d))) ≡ note-ticks e (t + d) ps ds
         → starts (until u e (heard (pick b (silence d) (note p x d) ∷ es) t)) ≡ pick (ltb t e) (pick b (note-ticks e (t + d) ps ds) (t ∷ note-ticks e (t + d) ps ds)) []
     go true ih =
-        elim (cases-lt t e)
-            [ inl l ↦ ih ∙ sym (pick-true (ltb t e) _ _ (lt-ltb _ _ l))
-            | inr l ↦ ap starts (until-late u e (t + d) es (omega arith)) ∙ sym (pick-false (ltb t e) _ _ (le-ltb _ _ l)) ]
+        elim (cases-lt t e) [
+          | inl l ↦ ih ∙ sym (pick-true (ltb t e) _ _ (lt-ltb _ _ l))
+          | inr l ↦ ap starts (until-late u e (t + d) es (omega arith)) ∙ sym (pick-false (ltb t e) _ _ (le-ltb _ _ l))
+        ]
     go false ih =
         let both : List ℕ → Notes → Type 0 = λ ts r. starts r ≡ ts in
-        elim (cases-lt t e)
-            [ inl l ↦ ap starts (pick-true (ltb t e) _ _ (lt-ltb _ _ l)) ∙ ap (λ (r : List ℕ). t ∷ r) ih ∙ sym (pick-true (ltb t e) _ _ (lt-ltb _ _ l))
-            | inr l ↦ ap starts (pick-false (ltb t e) _ _ (le-ltb _ _ l)) ∙ sym (pick-false (ltb t e) _ _ (le-ltb _ _ l)) ]
+        elim (cases-lt t e) [
+          | inl l ↦ ap starts (pick-true (ltb t e) _ _ (lt-ltb _ _ l)) ∙ ap (λ (r : List ℕ). t ∷ r) ih ∙ sym (pick-true (ltb t e) _ _ (lt-ltb _ _ l))
+          | inr l ↦ ap starts (pick-false (ltb t e) _ _ (le-ltb _ _ l)) ∙ sym (pick-false (ltb t e) _ _ (le-ltb _ _ l))
+        ]
 
 rising-later : (t r e : ℕ) (ts : List ℕ) → t ≤ r → Rising r e ts → Rising t e ts
 unfolding Rising
@@ -188,8 +193,8 @@ rising-starts u e t (note p q d ∷ es) f m =
     let l = fine-lasts (note p q d) (r .0) in
     let ih = rising-starts u e (t + d) es (r .1) (omega (arith, l .1)) in
     pick-both (λ (ys : Notes). Rising t e (starts ys)) (ltb t e) _ _
-        (λ h. (omega arith, ltb-true _ _ h, m, rising-later (t + grain) (t + d) e _ (omega (arith, l .0, l .1)) ih))
-        (λ _. tt)
+    (λ h. (omega arith, ltb-true _ _ h, m, rising-later (t + grain) (t + d) e _ (omega (arith, l .0, l .1)) ih))
+    (λ _. tt)
 
 -- A span from a up to before b, in slots: from that of number `first` on, up to before that of number `last`.
 abbrev up : ℕ → ℕ
@@ -197,12 +202,14 @@ up t = t / grain + min 1 (t % grain)
 
 same-span : (a b t : ℕ) → t % grain ≡ 0 → (leb a t && ltb t b) ≡ (leb (grain * up a) t && ltb t (grain * (up a + (up b - up a))))
 same-span a b t m =
-    elim (cases-lt t a)
-        [ inl l ↦ and-left (leb a t) (ltb t b) (lt-leb _ _ l) ∙ sym (and-left (leb (grain * up a) t) _ (lt-leb _ _ (omega arith)))
-        | inr l ↦
-            elim (cases-lt t b)
-                [ inl k ↦ and-from (leb a t) (ltb t b) (le-leb _ _ l) (lt-ltb _ _ k) ∙ sym (and-from (leb (grain * up a) t) _ (le-leb _ _ (omega arith)) (lt-ltb _ _ (omega arith)))
-                | inr k ↦ and-right (leb a t) (ltb t b) (le-ltb _ _ k) ∙ sym (and-right (leb (grain * up a) t) _ (le-ltb _ _ (omega arith))) ] ]
+    elim (cases-lt t a) [
+      | inl l ↦ and-left (leb a t) (ltb t b) (lt-leb _ _ l) ∙ sym (and-left (leb (grain * up a) t) _ (lt-leb _ _ (omega arith)))
+      | inr l ↦
+          elim (cases-lt t b) [
+            | inl k ↦ and-from (leb a t) (ltb t b) (le-leb _ _ l) (lt-ltb _ _ k) ∙ sym (and-from (leb (grain * up a) t) _ (le-leb _ _ (omega arith)) (lt-ltb _ _ (omega arith)))
+            | inr k ↦ and-right (leb a t) (ltb t b) (le-ltb _ _ k) ∙ sym (and-right (leb (grain * up a) t) _ (le-ltb _ _ (omega arith)))
+          ]
+    ]
 
 begins-slots : (u a b t : ℕ) (es : List Event) → all-fine es ≡ true → t % grain ≡ 0 → begins u a b (heard es t) ≡ begins u (grain * up a) (grain * (up a + (up b - up a))) (heard es t)
 unfolding begins heard all-fine lasts
@@ -245,18 +252,19 @@ next-step p x d ps xs ds es k t u e y ys true ih h =
       rest = n .rest ∙ ap (λ (r : ℕ). until u e (heard (drop (suc k) es) r)) (omega arith);
     }
 next-step p x d ps xs ds es k t u e y ys false ih h =
-    elim (cases-lt t e)
-        [ inl l ↦
-            let f : (u, record { start = t; long = d; high = tone p x }) ∷ until u e (heard es (t + d)) ≡ y ∷ ys = sym (pick-true (ltb t e) _ _ (lt-ltb _ _ l)) ∙ h in
-            let g : y ≡ (u, record { start = t; long = d; high = tone p x }) = cc in
-            let r : ys ≡ until u e (heard es (t + d)) = cc in
-            record {
-              in-voice = omega arith;
-              event = refl;
-              sound = g ∙ ap (λ (i : ℕ). (u, record { start = i; long = d; high = tone p x })) (sym (ap (λ (z : ℕ × Heard). z .1 .start) g));
-              rest = r ∙ ap (λ (i : ℕ). until u e (heard es i)) (omega arith);
-            }
-        | inr l ↦ no-note y ys (sym (pick-false (ltb t e) _ _ (le-ltb _ _ l)) ∙ h) ]
+    elim (cases-lt t e) [
+      | inl l ↦
+          let f : (u, record { start = t; long = d; high = tone p x }) ∷ until u e (heard es (t + d)) ≡ y ∷ ys = sym (pick-true (ltb t e) _ _ (lt-ltb _ _ l)) ∙ h in
+          let g : y ≡ (u, record { start = t; long = d; high = tone p x }) = cc in
+          let r : ys ≡ until u e (heard es (t + d)) = cc in
+          record {
+            in-voice = omega arith;
+            event = refl;
+            sound = g ∙ ap (λ (i : ℕ). (u, record { start = i; long = d; high = tone p x })) (sym (ap (λ (z : ℕ × Heard). z .1 .start) g));
+            rest = r ∙ ap (λ (i : ℕ). until u e (heard es i)) (omega arith);
+          }
+      | inr l ↦ no-note y ys (sym (pick-false (ltb t e) _ _ (le-ltb _ _ l)) ∙ h)
+    ]
 
 pub next-heard :
     (ps xs ds : List ℕ) (n t u e : ℕ) (y : ℕ × Heard) (ys : Notes) → until u e (heard (take n (voice-of ps xs ds)) t) ≡ y ∷ ys

@@ -89,9 +89,9 @@ marks-same u first k (t ∷ ts) ms h r =
     let f = in-slot first k t (length ms) (r .0) (r .1) (r .2) in
     let free : Free u (suc j) (set ms j w) = λ i l. ap (λ (n : ℕ). bit n u) (getD-set-other ms j i w 0 (λ e. omega arith)) ∙ h i (omega (arith, f .0)) in
     let one : begun u (grain * first) (set ms j w) ≡ begun u (grain * first) ms ++ (t ∷ []) =
-        begun-set u (grain * first) j w ms (f .1) (λ i l. h i (omega (arith, f .0))) (put-same (getD ms j 0) u)
-        ∙ ap (λ (n : ℕ). begun u (grain * first) ms ++ (n ∷ [])) (f .2) in
+    begun-set u (grain * first) j w ms (f .1) (λ i l. h i (omega (arith, f .0))) (put-same (getD ms j 0) u)
+    ∙ ap (λ (n : ℕ). begun u (grain * first) ms ++ (n ∷ [])) (f .2) in
     marks-same u first (suc j) ts (set ms j w) free
-        (subst (λ (n : ℕ). Rising n (grain * (first + length (set ms j w))) ts) (f .3)
-            (subst (λ (n : ℕ). Rising (t + grain) (grain * (first + n)) ts) (sym (length-set ms j w)) (r .3)))
+    (subst (λ (n : ℕ). Rising n (grain * (first + length (set ms j w))) ts) (f .3)
+    (subst (λ (n : ℕ). Rising (t + grain) (grain * (first + n)) ts) (sym (length-set ms j w)) (r .3)))
     ∙ ap (λ (xs : List ℕ). xs ++ ts) one ∙ append-assoc (begun u (grain * first) ms) (t ∷ []) ts

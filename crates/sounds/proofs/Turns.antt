@@ -73,18 +73,19 @@ module _ (f : ℕ → Notes) (t m v : ℕ) (ms : List ℕ) (b : Begin f t (m ∷
     pub turn-mixed : (n : ℕ) → v < n → mixed f n 0 ≡ turn-first .note ∷ mixed g n 0
     turn-mixed n l =
         mixed-next f g v (turn-first .note) (turn-first .rest) (turn-first .is) gone same
-            (λ u k. subst (λ (i : ℕ). From (suc i) (f u)) (sym (turn-first .starts-at))
-                (from-starts (suc t) (f u) _ (b .told u ∙ begun-later u t m ms (low .none-below u k)) (least-later (suc t) (t + grain) _ (omega arith) (begun-least u (t + grain) ms))))
-            (λ u k. subst (λ (i : ℕ). From i (f u)) (sym (turn-first .starts-at)) (from-starts t (f u) _ (b .told u) (begun-least u t (m ∷ ms))))
-            n 0 (omega arith) (omega arith)
+        (λ u k. subst (λ (i : ℕ). From (suc i) (f u)) (sym (turn-first .starts-at))
+        (from-starts (suc t) (f u) _ (b .told u ∙ begun-later u t m ms (low .none-below u k)) (least-later (suc t) (t + grain) _ (omega arith) (begun-least u (t + grain) ms))))
+        (λ u k. subst (λ (i : ℕ). From i (f u)) (sym (turn-first .starts-at)) (from-starts t (f u) _ (b .told u) (begun-least u t (m ∷ ms))))
+        n 0 (omega arith) (omega arith)
 
     pub turn-begin : Begin g t (bitXor m (2 ^ v) ∷ ms)
     turn-begin = record {
-      told = λ u. elim (cases-eq u v)
-        [ inl e ↦
+      told = λ u. elim (cases-eq u v) [
+        | inl e ↦
             ap (λ (i : ℕ). starts (g i)) e ∙ ap starts gone ∙ turn-first .after
             ∙ sym (ap (λ (i : ℕ). begun i t (bitXor m (2 ^ v) ∷ ms)) e ∙ begun-later v t (bitXor m (2 ^ v)) ms (flip-same m v (low .is-set)))
-        | inr ne ↦ ap starts (sym (same u ne)) ∙ b .told u ∙ begun-alike u t m (bitXor m (2 ^ v)) ms (sym (flip-other m v u ne)) ]
+        | inr ne ↦ ap starts (sym (same u ne)) ∙ b .told u ∙ begun-alike u t m (bitXor m (2 ^ v)) ms (sym (flip-other m v u ne))
+      ];
     }
 
 -- a slot without bits

@@ -29,14 +29,7 @@ fn reach(lengths: &[u32], from: usize) -> (usize, usize)
 }
 
 /// Sets a voice's bit in the slots in which its notes begin, from a tick on up to the end of the slots.
-fn mark(
-    places: &[u32],
-    lengths: &[u32],
-    voice: u32,
-    start: usize,
-    first: usize,
-    slots: &mut [u64],
-)
+fn mark(places: &[u32], lengths: &[u32], voice: u32, start: usize, first: usize, slots: &mut [u64])
     requires { ⌜ length (now places) ≡ length (now lengths) ⌝ ∗ ⌜ voice < 64 ⌝ ∗ ⌜ start + sum (now lengths) < 2 ^ 32 ⌝ }
     requires { ⌜ (0 < length (now lengths) → grain * first ≤ start) ⌝ }
     ensures { λ _. ⌜ now (slots .exit) ≡ marks voice first (note-ticks (grain * (first + length (now (slots .entry)))) start (now (places .entry)) (now (lengths .entry))) (now (slots .entry)) ⌝ }

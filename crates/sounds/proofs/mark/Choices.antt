@@ -10,4 +10,4 @@ abbrev pub Inv-loop-index : given.InvT-loop-index
 Inv-loop-index l =
     (l .tick ≡ l .start + sum (take (l .index) (l .lengths))) × (0 < length (l .lengths) → grain * l .first ≤ l .tick)
     × (marks (l .voice) (l .first) (note-ticks (grain * (l .first + length (l .entry .slots))) (l .tick) (drop (l .index) (l .places)) (drop (l .index) (l .lengths))) (l .slots)
-        ≡ marks (l .voice) (l .first) (note-ticks (grain * (l .first + length (l .entry .slots))) (l .start) (l .places) (l .lengths)) (l .entry .slots))
+    ≡ marks (l .voice) (l .first) (note-ticks (grain * (l .first + length (l .entry .slots))) (l .start) (l .places) (l .lengths)) (l .entry .slots))
