@@ -4,3 +4,7 @@ pub mod Run
 pub mod Below
 pub mod Stored
 pub mod Held
+pub mod Changes
+pub mod Outcomes
+pub mod Stages
+pub mod Moved
