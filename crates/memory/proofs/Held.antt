@@ -8,13 +8,13 @@ use lib.ListN.{length, getD, take, drop, replicate}
 use Rattle.std.specs.shelf.Lists.{between, sum, sumBy}
 use Rattle.std.proofs.shelf.Lists.{append-assoc, append-nil, length-append, length-map, map-append, take-map, getD-map, getD-drop, getD-append-left, getD-append-right, take-append-le, take-all, take-at, drop-at, drop-drop}
 use Rattle.std.proofs.shelf.Sums.{sum-map, sumBy-cons, sumBy-take-le}
-use Rattle.score.specs.Music.{Event, lasts, total, fine, all-fine}
+use Rattle.score.specs.Music.{Event, silence, lasts, total, fine, all-fine, places, alterations, length-end}
 use Rattle.score.specs.Calls.{Limits, Layout, Score, voice, all-events}
 use Rattle.score.specs.Promise.{Good-limits, Good-layout}
 use Rattle.laws.specs.Rows.{event-of, voice-of}
 use Rattle.memory.specs.Store.{stands, alters, flat, counts, ticks, padded, laid, stored, voices-in, limit-in, places-from, alterations-from, lengths-from, score-of, Kept-in, Kept}
 use Rattle.memory.specs.Words.{Holds, events-at, Spans}
-use Rattle.memory.proofs.Scores.{fine-at, fine-flat, fines-voice, length-flat, voice-le, flat-split}
+use Rattle.memory.proofs.Scores.{fine-fields, fine-at, fine-flat, fines-voice, length-flat, voice-le, flat-split}
 use Rattle.memory.proofs.Back.{event-back, rows-back, to-places, to-alterations, to-lengths, length-counts, length-ticks, length-region, score-back}
 use Rattle.memory.proofs.Stored.{length-stored}
 
@@ -175,6 +175,22 @@ module _ (w : List ℕ) (h : Holds w) where
       ∙ (ap (λ x. getD x (all-events (take v (score-of w)) + i) 0) (r .1)
       ∙ (region-word f (limit-in w) (flat (score-of w)) (r .0) _ d within
       ∙ ap f (flat-at (score-of w) v i d c2 li)))
+
+  -- and those of an event by its place among all
+
+  flat-word-at : (f : Event → ℕ) (from i : ℕ) (d : Event) → Region f from → i < all-events (score-of w) → getD w (from + i) 0 ≡ f (getD (flat (score-of w)) i d)
+  flat-word-at f from i d r li =
+      sym (getD-drop from w i 0) ∙ (ap (λ x. getD x i 0) (r .1) ∙ region-word f (limit-in w) (flat (score-of w)) (r .0) i d (rw (length-flat (score-of w)) li))
+
+  pub words-small : (i : ℕ) → i < all-events (score-of w) →
+      (getD w (places-from w + i) 0 ≤ places) × (getD w (alterations-from w + i) 0 < alterations) × (getD w (lengths-from w + i) 0 < length-end)
+  words-small i li =
+      let e : Event = getD (flat (score-of w)) i (silence 0) in
+      let f = fine-fields e (fine-at (flat (score-of w)) i (silence 0) (rw (length-flat (score-of w)) li) (fine-flat (score-of w) (h .kept .fines))) in
+      let p = flat-word-at stands (places-from w) i (silence 0) places-region li in
+      let a = flat-word-at alters (alterations-from w) i (silence 0) alterations-region li in
+      let t = flat-word-at lasts (lengths-from w) i (silence 0) lengths-region li in
+      (omega (arith, f .0), omega (arith, f .1), omega (arith, f .3))
 
   -- a voice that is there
 

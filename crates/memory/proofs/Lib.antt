@@ -8,3 +8,5 @@ pub mod Changes
 pub mod Outcomes
 pub mod Stages
 pub mod Moved
+pub mod Edited
+pub mod Left
