@@ -14,12 +14,7 @@ use Rattle.score.specs.Promise.{all-below, field}
 use Rattle.score.proofs.Picks.{pick-both}
 use Rattle.wire.specs.Bytes.{two, four, symbol-bytes, sound-bytes, symbols-bytes, sounds-bytes, each, answer-bytes}
 use Rattle.wire.specs.Fits.{symbol-fits, sound-fits, all-fit, answer-fits}
-use Rattle.wire.proofs.Rows.{all-below-none, all-below-more, all-below-++, two-below, four-below}
-
--- a kind, two numbers of one byte and one of two
-five-below : (k p s v : ℕ) → k < 256 → ltb p 256 ≡ true → ltb s 256 ≡ true → ltb v length-end ≡ true → all-below 256 (k ∷ (p ∷ (s ∷ two v))) ≡ true
-five-below k p s v h f g e =
-    all-below-more 256 k _ h (all-below-more 256 p _ (ltb-true p 256 f) (all-below-more 256 s _ (ltb-true s 256 g) (two-below v e)))
+use Rattle.wire.proofs.Rows.{five-below, all-below-none, all-below-more, all-below-++, two-below, four-below}
 
 pub symbol-below : (x : Symbol) → symbol-fits x ≡ true → all-below 256 (symbol-bytes x) ≡ true
 symbol-below bar p = five-below 0 0 0 0 (omega arith) refl refl refl

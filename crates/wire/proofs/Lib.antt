@@ -3,4 +3,8 @@ pub mod Rows
 pub mod Written
 pub mod Fitting
 pub mod Parts
+pub mod Results
 pub mod Back
+pub mod CallsBack
+pub mod OneRow
+pub mod PlaceRight

@@ -51,6 +51,10 @@ pub all-below-more : (b x : ℕ) (xs : List ℕ) → x < b → all-below b xs �
 unfolding all-below
 all-below-more b x xs h p = and-from (ltb x b) _ (lt-ltb x b h) p
 
+pub below-first : (x : ℕ) (xs : List ℕ) → all-below 256 (x ∷ xs) ≡ true → (x < 256) × (all-below 256 xs ≡ true)
+unfolding all-below
+below-first x xs p = let both = and-parts (ltb x 256) (all-below 256 xs) p in (ltb-true x 256 (both .0), both .1)
+
 pub all-below-none : (b : ℕ) → all-below b [] ≡ true
 unfolding all-below
 all-below-none b = refl
@@ -63,3 +67,8 @@ four-below n p =
     let h = ltb-true n field-end p in
     all-below-more 256 _ _ (omega arith)
     (all-below-more 256 _ _ (omega arith) (all-below-more 256 _ _ (omega arith) (all-below-more 256 _ _ (omega arith) (all-below-none 256))))
+
+-- a kind, two numbers of one byte and one of two
+pub five-below : (k p s v : ℕ) → k < 256 → ltb p 256 ≡ true → ltb s 256 ≡ true → ltb v length-end ≡ true → all-below 256 (k ∷ (p ∷ (s ∷ two v))) ≡ true
+five-below k p s v h f g e =
+    all-below-more 256 k _ h (all-below-more 256 p _ (ltb-true p 256 f) (all-below-more 256 s _ (ltb-true s 256 g) (two-below v e)))

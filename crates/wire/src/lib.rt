@@ -10,7 +10,7 @@ ghost use Rattle.score.specs.Meaning.{event-meant, call-meant, symbol-meant, so
 ghost use Rattle.wire.specs.Bytes.{four, symbol-bytes, sound-bytes, symbols-head, sounds-head, answer-bytes};
 ghost use Rattle.wire.specs.Reading.{symbol-of, sound-of};
 ghost use Rattle.wire.specs.ReadingCalls.{read-as, read-call, call-by, one-field, two-fields, three-fields, fields-and-event, field-at, event-at, note-at, silence-at, end-at};
-ghost use Rattle.wire.specs.Faithful.{Symbols-back, Sounds-back};
+ghost use Rattle.wire.specs.Faithful.{Calls-back, One-row, Place-right, Symbols-back, Sounds-back};
 use score::Call;
 use score::Event;
 use score::Refusal;
@@ -325,6 +325,21 @@ pub fn read_sound(bytes: &[u8]) -> Option<Sound>
         tone: *tone,
     })
 }
+
+/// What was written of a call is read back as that call.
+pub fn calls_back()
+    ensures { λ _. ⌜ Calls-back ⌝ }
+{}
+
+/// Only one row of bytes is read as a given call, but for two bytes of a silence.
+pub fn one_row()
+    ensures { λ _. ⌜ One-row ⌝ }
+{}
+
+/// The place of a refusal is where bytes cease to be the beginning of a call.
+pub fn place_right()
+    ensures { λ _. ⌜ Place-right ⌝ }
+{}
 
 /// What was written of a symbol is read back as that symbol.
 pub fn symbols_back()
