@@ -1,0 +1,3 @@
+mod Blank
+mod Lent
+mod Openings

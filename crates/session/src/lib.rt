@@ -1,0 +1,92 @@
+//! The session: a score is opened in lent words and bytes, and calls are answered there.
+ghost use mathlib.Core.Path.{_≡_};
+ghost use Prim.Native.Nat.{_≤_};
+ghost use mathlib.Core.Bool.{_&&_};
+ghost use lib.Dec.{leb};
+ghost use lib.ListN.{length};
+ghost use Rattle.std.specs.declared.option.Option.the-variants.{None, Some};
+ghost use Rattle.score.specs.Music.{pick};
+ghost use Rattle.std.specs.Results.{Cases};
+ghost use Rattle.score.specs.Calls.{empty-voices};
+ghost use Rattle.memory.specs.Store.{words-asked, bytes-asked, stored};
+ghost use Rattle.voices.specs.Said.{said-done};
+ghost use Rattle.session.specs.Session.{opens, sizes-of, open-answer, limits-for, layout-for, Opened, Unchanged};
+use score::Refusal;
+
+/// What a score is opened with: its key, a bar's length in ticks, how many voices it has, and how many events there may be in all.
+#[derive(Clone, Copy)]
+pub struct Opening {
+    pub key: u32,
+    pub bar: u32,
+    pub voices: u32,
+    pub events: u32,
+}
+
+/// How many words and bytes a score asks for.
+#[derive(Clone, Copy)]
+pub struct Sizes {
+    pub words: usize,
+    pub bytes: usize,
+}
+
+impl Opening {
+    /// How many words and bytes are asked for, unless the opening is out of range.
+    pub fn sizes(self) -> Option<Sizes>
+        ensures { λ r. ⌜ r ≡ sizes-of self ⌝ }
+    {
+        if self.key > 14 || self.bar == 0 || self.bar > 768 || self.bar % 3 != 0 {
+            return None;
+        }
+        if self.voices == 0 || self.voices > 64 || self.events > 65536 {
+            return None;
+        }
+        Some(Sizes {
+            words: 4 + (2 * self.voices as usize + 3 * self.events as usize),
+            bytes: 8 * self.events as usize + 262144,
+        })
+    }
+}
+
+impl Sizes {
+    /// The sizes, if there are so many words and bytes.
+    fn within(self, words: usize, bytes: usize) -> Option<Sizes>
+        ensures { λ r. ⌜ r ≡ pick (leb (self .words) words && leb (self .bytes) bytes) (Some self) None ⌝ }
+    {
+        if self.words > words || self.bytes > bytes {
+            return None;
+        }
+        Some(self)
+    }
+}
+
+/// Writes a score without events over just the words that it asks for.
+fn lay_out(words: &mut [u32], opening: Opening)
+    requires { ⌜ length (now words) ≡ words-asked (opening .voices) (opening .events) ⌝ }
+    ensures { λ _. ⌜ now (words .exit) ≡ stored (limits-for opening) (layout-for opening) (empty-voices (opening .voices)) ⌝ }
+{
+    words.fill(0);
+    words[0] = opening.key;
+    words[1] = opening.bar;
+    words[2] = opening.voices;
+    words[3] = opening.events;
+}
+
+/// Opens a score without events in lent memory, or changes nothing.
+pub fn open(words: &mut [u32], bytes: &mut [u8], opening: Opening) -> Result<(), Refusal>
+    ensures said { λ r. ⌜ said-done r ≡ open-answer opening (length (now (words .entry))) (length (now (bytes .entry))) ⌝ }
+    ensures left { λ r. ⌜ Cases r (λ _. Opened opening (now (words .entry)) (now (bytes .entry)) (now (words .exit)) (now (bytes .exit))) (λ _. Unchanged (now (words .entry)) (now (bytes .entry)) (now (words .exit)) (now (bytes .exit))) ⌝ }
+{
+    let Some(asked) = opening.sizes() else {
+        return Err(Refusal::BadOpening);
+    };
+    let Some(asked) = asked.within(words.len(), bytes.len()) else {
+        return Err(Refusal::TooLittleMemory);
+    };
+    let Sizes {
+        words: taken,
+        bytes: room,
+    } = asked;
+    lay_out(&mut words[0..taken], opening);
+    bytes[0..room].fill(0);
+    Ok(())
+}
