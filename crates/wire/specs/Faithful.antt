@@ -12,8 +12,9 @@ use Rattle.score.specs.Music.{note, silence, Heard}
 use Rattle.score.specs.Print.{Symbol}
 use Rattle.score.specs.Calls.{Call, put, cut, change, show, heard-in, how-long, Answer, refused}
 use Rattle.score.specs.Promise.{all-below, readable}
-use Rattle.wire.specs.Bytes.{call-bytes, symbol-bytes, sound-bytes}
-use Rattle.wire.specs.Reading.{symbol-of, sound-of}
+use Rattle.wire.specs.Bytes.{call-bytes, symbol-bytes, sound-bytes, answer-bytes}
+use Rattle.wire.specs.Reading.{symbol-of, sound-of, answer-of}
+use Rattle.wire.specs.Fits.{answer-fits}
 use Rattle.wire.specs.ReadingCalls.{read-call}
 
 -- a call's bytes with other ones in the two places of a silence that are not looked at
@@ -50,9 +51,14 @@ Place-right =
     (bs : List ℕ) (a : Answer) → read-call bs ≡ Err a →
     (n : ℕ) × (a ≡ refused 1 n) × Begins-a-call (take n bs) × ((n ≡ length bs) ⊎ (Begins-a-call (take (suc n) bs) → ⊥))
 
--- a symbol, and a note as it is heard, whatever stands behind
+-- A symbol is read back, and a note as it is heard, whatever stands behind.
 abbrev pub Symbols-back : Type 0
 Symbols-back = (x : Symbol) (bs : List ℕ) → symbol-of (symbol-bytes x ++ bs) ≡ Some x
 
 abbrev pub Sounds-back : Type 0
 Sounds-back = (x : ℕ × Heard) (bs : List ℕ) → sound-of (sound-bytes x ++ bs) ≡ Some x
+
+-- And every answer, whose bytes are bytes if its numbers fit their fields: nothing is cut, so nothing too large can hide.
+abbrev pub Answers-back : Type 0
+Answers-back =
+    (a : Answer) → ((bs : List ℕ) → answer-of (answer-bytes a ++ bs) ≡ Some a) × (answer-fits a ≡ true → all-below 256 (answer-bytes a) ≡ true)

@@ -8,14 +8,26 @@ ghost use Rattle.score.specs.Calls as Calls;
 ghost use Rattle.score.specs.Calls.{done};
 ghost use Rattle.score.specs.Meaning.{event-meant, call-meant, symbol-meant, sound-meant, refusal-meant};
 ghost use Rattle.wire.specs.Bytes.{four, symbol-bytes, sound-bytes, symbols-head, sounds-head, answer-bytes};
-ghost use Rattle.wire.specs.Reading.{symbol-of, sound-of};
+ghost use Rattle.wire.specs.Reading.{symbol-of, sound-of, number-of, refusal-of, said-of};
 ghost use Rattle.wire.specs.ReadingCalls.{read-as, read-call, call-by, one-field, two-fields, three-fields, fields-and-event, field-at, event-at, note-at, silence-at, end-at};
-ghost use Rattle.wire.specs.Faithful.{Calls-back, One-row, Place-right, Symbols-back, Sounds-back};
+ghost use Rattle.wire.specs.Faithful.{Calls-back, One-row, Place-right, Symbols-back, Sounds-back, Answers-back};
 use score::Call;
 use score::Event;
 use score::Refusal;
 use score::Sound;
 use score::Symbol;
+
+/// What is said first in an answer.
+#[derive(Clone, Copy, PartialEq, Eq, Debug)]
+pub enum Said {
+    Done,
+    Refused { number: u8, place: u32 },
+    /// So many symbols follow, behind the first five bytes.
+    Symbols { count: u32 },
+    /// So many sounds follow, behind the first five bytes.
+    Sounds { count: u32 },
+    Number { number: u32 },
+}
 
 /// Writes a symbol over the first five bytes, and returns how many that is.
 pub fn write_symbol(out: &mut [u8], symbol: Symbol) -> usize
@@ -326,6 +338,56 @@ pub fn read_sound(bytes: &[u8]) -> Option<Sound>
     })
 }
 
+/// What is said first in the answer that stands at the front of bytes: none if they are too few or its kind is unknown.
+pub fn read_answer(bytes: &[u8]) -> Option<Said>
+    ensures { λ r. ⌜ r ≡ said-of (now (bytes .entry)) ⌝ }
+{
+    let [kind, rest @ ..] = bytes else {
+        return None;
+    };
+    match *kind {
+        0 => Some(Said::Done),
+        1 => read_refusal(rest),
+        2 => {
+            let count = read_number(rest)?;
+            Some(Said::Symbols { count })
+        }
+        3 => {
+            let count = read_number(rest)?;
+            Some(Said::Sounds { count })
+        }
+        4 => {
+            let number = read_number(rest)?;
+            Some(Said::Number { number })
+        }
+        _ => None,
+    }
+}
+
+/// A refusal's number and place.
+fn read_refusal(bytes: &[u8]) -> Option<Said>
+    ensures { λ r. ⌜ r ≡ refusal-of (now (bytes .entry)) ⌝ }
+{
+    let [number, rest @ ..] = bytes else {
+        return None;
+    };
+    let place = read_number(rest)?;
+    Some(Said::Refused {
+        number: *number,
+        place,
+    })
+}
+
+/// A number in four bytes.
+fn read_number(bytes: &[u8]) -> Option<u32>
+    ensures { λ r. ⌜ r ≡ number-of (now (bytes .entry)) ⌝ }
+{
+    let [a, b, c, d, ..] = bytes else {
+        return None;
+    };
+    Some(u32::from_le_bytes([*a, *b, *c, *d]))
+}
+
 /// What was written of a call is read back as that call.
 pub fn calls_back()
     ensures { λ _. ⌜ Calls-back ⌝ }
@@ -349,4 +411,9 @@ pub fn symbols_back()
 /// What was written of a note as it is heard is read back as that note.
 pub fn sounds_back()
     ensures { λ _. ⌜ Sounds-back ⌝ }
+{}
+
+/// What was written of an answer is read back as that answer, and is bytes if its numbers fit their fields.
+pub fn answers_back()
+    ensures { λ _. ⌜ Answers-back ⌝ }
 {}
