@@ -16,14 +16,14 @@ use Rattle.laws.specs.Owed.{holding, sign-of}
 use Rattle.laws.proofs.Events.{fine-lasts}
 use Rattle.laws.proofs.Reading.{sound, read-note, read-rest, read-begun}
 
--- a sign stands behind symbols that have none
-abbrev pub Behind : List Symbol → List Symbol → ℕ → Type 0
+-- A sign in a row of which the front has none stands behind that front: taking it away leaves the front as it is.
+abbrev Behind : List Symbol → List Symbol → ℕ → Type 0
 Behind fs xs i = (j : ℕ) × (has-sign xs j ≡ true) × (without-sign (fs ++ xs) i ≡ fs ++ without-sign xs j)
 
 behind-one : (x : Symbol) (fs xs : List Symbol) (i : ℕ) → (without-sign (x ∷ (fs ++ xs)) (suc i) ≡ x ∷ without-sign (fs ++ xs) i) → Behind fs xs i → Behind (x ∷ fs) xs (suc i)
 behind-one x fs xs i w b = (b .0, b .1, w ∙ ap (λ (r : List Symbol). x ∷ r) (b .2))
 
-pub behind-heads : (p : ℕ) (cs : List Chunk) (xs : List Symbol) (i : ℕ) → has-sign (heads p 0 cs ++ xs) i ≡ true → Behind (heads p 0 cs) xs i
+behind-heads : (p : ℕ) (cs : List Chunk) (xs : List Symbol) (i : ℕ) → has-sign (heads p 0 cs ++ xs) i ≡ true → Behind (heads p 0 cs) xs i
 unfolding heads has-sign without-sign
 behind-heads p [] xs i e = (i, e, refl)
 behind-heads p (line ∷ cs) xs zero e = absurd (both-ways false refl e)
@@ -31,7 +31,7 @@ behind-heads p (line ∷ cs) xs (suc i) e = behind-one bar (heads p 0 cs) xs i r
 behind-heads p (value v ∷ cs) xs zero e = absurd (both-ways false refl e)
 behind-heads p (value v ∷ cs) xs (suc i) e = behind-one (head p 0 v (has-value cs)) (heads p 0 cs) xs i refl (behind-heads p cs xs i e)
 
-pub behind-rests : (cs : List Chunk) (xs : List Symbol) (i : ℕ) → has-sign (rests cs ++ xs) i ≡ true → Behind (rests cs) xs i
+behind-rests : (cs : List Chunk) (xs : List Symbol) (i : ℕ) → has-sign (rests cs ++ xs) i ≡ true → Behind (rests cs) xs i
 unfolding rests has-sign without-sign
 behind-rests [] xs i e = (i, e, refl)
 behind-rests (line ∷ cs) xs zero e = absurd (both-ways false refl e)
@@ -39,11 +39,12 @@ behind-rests (line ∷ cs) xs (suc i) e = behind-one bar (rests cs) xs i refl (b
 behind-rests (value v ∷ cs) xs zero e = absurd (both-ways false refl e)
 behind-rests (value v ∷ cs) xs (suc i) e = behind-one (rest v) (rests cs) xs i refl (behind-rests cs xs i e)
 
--- a note of which a sign is taken away, and which is heard as before, has its sign behind it
-abbrev pub Later-sign : ℕ → List Symbol → ℕ → (ℕ → ℕ) → List Heard → Type 0
+-- If a sign is taken away of what is printed of a note and of what follows, and the note is heard as before, it was not the note's own: its own tells
+-- a tone that would not be heard without it. So it is one of what follows, which is heard as before, too.
+abbrev Later-sign : ℕ → List Symbol → ℕ → (ℕ → ℕ) → List Heard → Type 0
 Later-sign k xs t st hs = (j : ℕ) × (has-sign xs j ≡ true) × (reads k (without-sign xs j) t st nothing ≡ hs)
 
-pub sign-behind : (k p a d v : ℕ) (r : List Chunk) (xs : List Symbol) (t : ℕ) (st : ℕ → ℕ) (hs : List Heard) (i : ℕ) → v + span r ≡ d →
+sign-behind : (k p a d v : ℕ) (r : List Chunk) (xs : List Symbol) (t : ℕ) (st : ℕ → ℕ) (hs : List Heard) (i : ℕ) → v + span r ≡ d →
     has-sign (heads p (sign-of st p a) (value v ∷ r) ++ xs) i ≡ true →
     reads k (without-sign (heads p (sign-of st p a) (value v ∷ r) ++ xs) i) t st nothing ≡ sound t d (tone p a) ∷ hs →
     Later-sign k xs (t + d) (holding k r (now st p a)) hs
@@ -68,7 +69,7 @@ sign-behind k p a d v r xs t st hs (suc i) f e w = (
     b : Behind (heads p 0 r) xs i
     b = behind-heads p r xs i e
 
-pub sign-behind-begun : (k p a d : ℕ) (cs : List Chunk) (xs : List Symbol) (t : ℕ) (st : ℕ → ℕ) (hs : List Heard) (i : ℕ) → Begun cs → span cs ≡ d →
+sign-behind-begun : (k p a d : ℕ) (cs : List Chunk) (xs : List Symbol) (t : ℕ) (st : ℕ → ℕ) (hs : List Heard) (i : ℕ) → Begun cs → span cs ≡ d →
     has-sign (heads p (sign-of st p a) cs ++ xs) i ≡ true →
     reads k (without-sign (heads p (sign-of st p a) cs ++ xs) i) t st nothing ≡ sound t d (tone p a) ∷ hs →
     Later-sign k xs (t + d) (holding k cs (now st p a)) hs
@@ -78,7 +79,8 @@ sign-behind-begun k p a d cs xs t st hs i b =
     reads k (without-sign (heads p (sign-of st p a) c ++ xs) i) t st nothing ≡ sound t d (tone p a) ∷ hs → Later-sign k xs (t + d) (holding k c (now st p a)) hs)
     (sym (b .2)) (sign-behind k p a d (b .0) (b .1) xs t st hs i)
 
-pub signs-all : (k b o : ℕ) (st : ℕ → ℕ) (t : ℕ) (es : List Event) (i : ℕ) → o < b → b % 3 ≡ 0 → o % 3 ≡ 0 → all-fine es ≡ true →
+-- so no event has the sign that could be taken away
+signs-all : (k b o : ℕ) (st : ℕ → ℕ) (t : ℕ) (es : List Event) (i : ℕ) → o < b → b % 3 ≡ 0 → o % 3 ≡ 0 → all-fine es ≡ true →
     has-sign (print k b o st es) i ≡ true → reads k (without-sign (print k b o st es) i) t st nothing ≡ heard es t → ⊥
 unfolding print heard all-fine lasts has-sign
 signs-all k b o st t [] i h b3 o3 f e w = both-ways false refl e

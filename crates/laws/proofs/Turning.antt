@@ -1,4 +1,4 @@
--- What is turned away, and what is undone. Assumes nothing.
+-- Calls that are turned away and questions change nothing, and a cut undoes a put. Assumes nothing.
 use mathlib.Core.Path.{_≡_, refl, sym, ap, _∙_, subst}
 use mathlib.Core.Logic.{_⊎_, inl, inr}
 use mathlib.Core.Bool.{Bool, true, false}
@@ -14,10 +14,11 @@ use Rattle.score.specs.Calls.{Call, put, cut, change, show, heard-in, how-long,
 use Rattle.score.specs.Promise.{Turned-away, Undone}
 use Rattle.score.proofs.Picks.{pick-true, pick-false, pick-same}
 
+-- the score after a call that is turned away, and after a question
 pub after-turned : (l : Limits) (y : Layout) (s : Score) (c : Call) → 0 < turned l y s c → after l y s c ≡ s
 after-turned l y s c h = pick-false (eqb (turned l y s c) 0) _ _ (ne-eqb _ _ (λ e. omega arith))
 
-pub asked : (s : Score) (c : Call) → 3 ≤ call-number c → changed s c ≡ s
+asked : (s : Score) (c : Call) → 3 ≤ call-number c → changed s c ≡ s
 unfolding changed call-number
 asked s (put v i e) h = absurd (omega arith)
 asked s (cut v i) h = absurd (omega arith)
@@ -36,7 +37,7 @@ turned-away l y s c cs h = ap (λ (x : Score). answers l y x cs) (go h)
     go (inl p) = after-turned l y s c p
     go (inr p) = after-asked l y s c p
 
--- not turned: each of the three tests passed
+-- a call that is not turned away has passed each of the three tests, and is done
 pub not-turned : (l : Limits) (y : Layout) (s : Score) (c : Call) → turned l y s c ≡ 0 → (good-call l y c ≡ true) × (turned-by s c ≡ 0) × (fits l (changed s c) ≡ true)
 not-turned l y s c = go (good-call l y c) (turned-by s c) (fits l (changed s c))
   where
@@ -56,13 +57,13 @@ turned-not l y s c g n f =
 pub after-not : (l : Limits) (y : Layout) (s : Score) (c : Call) → turned l y s c ≡ 0 → after l y s c ≡ changed s c
 after-not l y s c e = pick-true (eqb (turned l y s c) 0) _ _ (eq-eqb _ 0 e)
 
-pub two-picks : (a b : Bool) → _≡_ {A = ℕ} (pick a (pick b 0 5) 4) 0 → (a ≡ true) × (b ≡ true)
+two-picks : (a b : Bool) → _≡_ {A = ℕ} (pick a (pick b 0 5) 4) 0 → (a ≡ true) × (b ≡ true)
 two-picks true true e = (refl, refl)
 two-picks true false e = absurd (omega arith)
 two-picks false b e = absurd (omega arith)
 
 -- what is put in is cut out again
-pub put-cut : (xs : List Event) (i : ℕ) (e : Event) → i ≤ length xs →
+put-cut : (xs : List Event) (i : ℕ) (e : Event) → i ≤ length xs →
     take i (take i xs ++ (e ∷ drop i xs)) ++ drop (suc i) (take i xs ++ (e ∷ drop i xs)) ≡ xs
 put-cut xs zero e h = refl
 put-cut [] (suc i) e h = absurd (omega arith)
@@ -78,25 +79,25 @@ module _ (s : Score) (v i : ℕ) (e : Event) (lv : v < length s) (li : i ≤ len
   unfolding changed
   put-voice = getD-set-same s v (take i (voice s v) ++ (e ∷ drop i (voice s v))) [] lv
 
-  pub cut-put : changed (changed s (put v i e)) (cut v i) ≡ s
+  cut-put : changed (changed s (put v i e)) (cut v i) ≡ s
   unfolding changed
   cut-put =
       ap (λ (x : List Event). set (changed s (put v i e)) v (take i x ++ drop (suc i) x)) put-voice
       ∙ ap (λ (x : List Event). set (changed s (put v i e)) v x) (put-cut (voice s v) i e li)
       ∙ set-set s v _ (voice s v) ∙ set-getD s v []
 
-  pub cut-can : turned-by (changed s (put v i e)) (cut v i) ≡ 0
+  cut-can : turned-by (changed s (put v i e)) (cut v i) ≡ 0
   unfolding turned-by changed
   cut-can =
       pick-true (ltb v (length (changed s (put v i e)))) _ _ (lt-ltb _ _ (subst (λ (x : ℕ). v < x) (sym (length-set s v _)) lv))
       ∙ pick-true (ltb i (length (voice (changed s (put v i e)) v))) 0 5
       (lt-ltb _ _ (subst (λ (x : ℕ). i < x) (sym (ap length put-voice ∙ put-long (voice s v) i e li)) (omega arith)))
 
--- a cut undoes a put, of whatever fitted before
-pub undone-fits : (l : Limits) (y : Layout) (s : Score) (v i : ℕ) (e : Event) → turned l y s (put v i e) ≡ 0 → l .calls-can 1 ≡ true → fits l s ≡ true →
+-- so after both the score is as it was
+pub put-undone : (l : Limits) (y : Layout) (s : Score) (v i : ℕ) (e : Event) → turned l y s (put v i e) ≡ 0 → l .calls-can 1 ≡ true → fits l s ≡ true →
     after l y (after l y s (put v i e)) (cut v i) ≡ s
 unfolding turned-by call-number good-fields
-undone-fits l y s v i e t c h = ap (λ (x : Score). after l y x (cut v i)) (after-not l y s (put v i e) t) ∙ after-not l y (changed s (put v i e)) (cut v i) cuts ∙ back
+put-undone l y s v i e t c h = ap (λ (x : Score). after l y x (cut v i)) (after-not l y s (put v i e) t) ∙ after-not l y (changed s (put v i e)) (cut v i) cuts ∙ back
   where
     can : (ltb v (length s) ≡ true) × (leb i (length (voice s v)) ≡ true)
     can = two-picks (ltb v (length s)) (leb i (length (voice s v))) (not-turned l y s (put v i e) t .1)
@@ -108,4 +109,4 @@ undone-fits l y s v i e t c h = ap (λ (x : Score). after l y x (cut v i)) (afte
     cuts = turned-not l y (changed s (put v i e)) (cut v i) (and-from _ _ c refl) (cut-can s v i e (ltb-true _ _ (can .0)) (leb-true _ _ (can .1))) (ap (fits l) back ∙ h)
 
 pub undone : Undone
-undone l y s v i e cs t c h = ap (λ (x : Score). answers l y x cs) (undone-fits l y s v i e t c h)
+undone l y s v i e cs t c h = ap (λ (x : Score). answers l y x cs) (put-undone l y s v i e t c h)

@@ -79,11 +79,16 @@ write n at left v was out w h l e =
       within = simp length-set (omega arith);
     }
 
-pub done : (n at left : ℕ) (was out : List ℕ) → Writing n at left was out → left < 3 → (out ≡ pieces n n ++ drop at was) × (at ≡ length (pieces n n))
+pub done : (n at left : ℕ) (was out : List ℕ) → Writing n at left was out → left < 3 → (out ≡ pieces n n ++ drop at was) × (at ≡ length (pieces n n)) × (at ≤ n / 192 + 3)
+unfolding count
 done n at left was out w h = (
   sym (take-append-drop at out) ∙ ap₂ (λ (xs ys : List ℕ). xs ++ ys) all (w .back),
-  sym (length-take-le at out (w .within)) ∙ ap length all,
+  many,
+  omega (arith, many, count-few n),
 )
   where
     all : take at out ≡ pieces n n
     all = sym (append-nil (take at out)) ∙ ap (λ (xs : List ℕ). take at out ++ xs) (sym (pieces-none left h)) ∙ w .front
+
+    many : at ≡ length (pieces n n)
+    many = sym (length-take-le at out (w .within)) ∙ ap length all

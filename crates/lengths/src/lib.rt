@@ -45,6 +45,7 @@ pub fn pieces(n: u32, out: &mut [u32]) -> usize
     requires { ⌜ n / 192 + 3 ≤ length (now out) ⌝ }
     ensures wrote { λ r. ⌜ now (out .exit) ≡ pieces-of n n ++ drop r (now (out .entry)) ⌝ }
     ensures many { λ r. ⌜ r ≡ length (pieces-of n n) ⌝ }
+    ensures few { λ r. ⌜ r ≤ n / 192 + 3 ⌝ }
 {
     let mut left = n;
     let mut at = 0;
@@ -55,4 +56,29 @@ pub fn pieces(n: u32, out: &mut [u32]) -> usize
         at += 1;
     }
     at
+}
+
+#[cfg(test)]
+mod tests {
+    use super::*;
+    use std::test::*;
+
+    // Each length of up to four whole notes has as few values as the best row of values, which is found here by way of all shorter lengths.
+    #[test]
+    fn as_few_as_the_best_row() -> Result<(), Fail> {
+        let mut best = [0usize; 257];
+        for third in 1..257 {
+            let mut least = usize::MAX;
+            for v in VALUES {
+                let step = (v / 3) as usize;
+                if step <= third {
+                    least = least.min(best[third - step].saturating_add(1));
+                }
+            }
+            best[third] = least;
+            let mut values = [0; 7];
+            check_eq(pieces(3 * third as u32, &mut values), least)?;
+        }
+        Ok(())
+    }
 }

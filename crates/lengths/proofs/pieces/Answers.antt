@@ -28,4 +28,4 @@ loop-left-again c =
 pub returns : need.returns
 returns c =
     let d = done (c .args .n) (c .loop-left .at) (c .loop-left .left) (c .args .out .now) (c .loop-left .out) (c .loop-left .inv) (c .loop-left-test .left) in
-    record { wrote = d .0; many = d .1 }
+    record { wrote = d .0; many = d .1; few = d .2 }
