@@ -7,7 +7,7 @@ ghost use Rattle.std.specs.Options.{mapped};
 ghost use Rattle.score.specs.Calls as Calls;
 ghost use Rattle.score.specs.Calls.{done};
 ghost use Rattle.score.specs.Meaning.{event-meant, call-meant, symbol-meant, sound-meant, refusal-meant};
-ghost use Rattle.wire.specs.Bytes.{four, symbol-bytes, sound-bytes, symbols-head, sounds-head, answer-bytes};
+ghost use Rattle.wire.specs.Bytes.{four, event-bytes, call-bytes, symbol-bytes, sound-bytes, symbols-head, sounds-head, answer-bytes};
 ghost use Rattle.wire.specs.Reading.{symbol-of, sound-of, number-of, refusal-of, said-of};
 ghost use Rattle.wire.specs.ReadingCalls.{read-as, read-call, call-by, one-field, two-fields, three-fields, fields-and-event, field-at, event-at, note-at, silence-at, end-at};
 ghost use Rattle.wire.specs.Faithful.{Calls-back, One-row, Place-right, Symbols-back, Sounds-back, Answers-back};
@@ -125,6 +125,89 @@ fn write_head(out: &mut [u8], kind: u8, number: u32) -> usize
     let [a, b, c, d] = number.to_le_bytes();
     out[0..5].copy_from_slice(&[kind, a, b, c, d]);
     5
+}
+
+/// Writes a call, and returns how many bytes that is.
+pub fn write_call(out: &mut [u8], call: Call) -> usize
+    requires { ⌜ 14 ≤ length (now out) ⌝ }
+    ensures wrote { λ r. ⌜ now (out .exit) ≡ call-bytes (call-meant call) ++ drop r (now (out .entry)) ⌝ }
+    ensures many { λ r. ⌜ r ≡ length (call-bytes (call-meant call)) ⌝ }
+{
+    match call {
+        Call::Put {
+            voice,
+            index,
+            event,
+        } => write_placed(out, 0, voice, index, event),
+        Call::Cut { voice, index } => write_two(out, 1, voice, index),
+        Call::Change {
+            voice,
+            index,
+            event,
+        } => write_placed(out, 2, voice, index, event),
+        Call::Show { voice, bar, count } => write_three(out, 3, voice, bar, count),
+        Call::HeardIn { from, to } => write_two(out, 4, from, to),
+        Call::HowLong { voice } => write_head(out, 5, voice),
+    }
+}
+
+/// Writes a call's number, two fields and an event.
+fn write_placed(out: &mut [u8], kind: u8, voice: u32, index: u32, event: Event) -> usize
+    requires { ⌜ 14 ≤ length (now out) ⌝ }
+    ensures wrote { λ r. ⌜ now (out .exit) ≡ (kind ∷ (four voice ++ (four index ++ event-bytes (event-meant event)))) ++ drop r (now (out .entry)) ⌝ }
+    ensures many { λ r. ⌜ r ≡ 14 ⌝ }
+{
+    let at = write_two(out, kind, voice, index);
+    at + write_event(&mut out[at..], event)
+}
+
+/// Writes an event over the first five bytes.
+fn write_event(out: &mut [u8], event: Event) -> usize
+    requires { ⌜ 5 ≤ length (now out) ⌝ }
+    ensures wrote { λ r. ⌜ now (out .exit) ≡ event-bytes (event-meant event) ++ drop r (now (out .entry)) ⌝ }
+    ensures many { λ r. ⌜ r ≡ 5 ⌝ }
+{
+    let row = match event {
+        Event::Note {
+            place,
+            alteration,
+            length,
+        } => {
+            let [low, high] = length.to_le_bytes();
+            [0, place, alteration, low, high]
+        }
+        Event::Silence { length } => {
+            let [low, high] = length.to_le_bytes();
+            [1, 0, 0, low, high]
+        }
+    };
+    out[0..5].copy_from_slice(&row);
+    5
+}
+
+/// Writes a call's number and two fields.
+fn write_two(out: &mut [u8], kind: u8, first: u32, second: u32) -> usize
+    requires { ⌜ 9 ≤ length (now out) ⌝ }
+    ensures wrote { λ r. ⌜ now (out .exit) ≡ (kind ∷ (four first ++ four second)) ++ drop r (now (out .entry)) ⌝ }
+    ensures many { λ r. ⌜ r ≡ 9 ⌝ }
+{
+    let [a, b, c, d] = first.to_le_bytes();
+    let [e, f, g, h] = second.to_le_bytes();
+    out[0..9].copy_from_slice(&[kind, a, b, c, d, e, f, g, h]);
+    9
+}
+
+/// Writes a call's number and three fields.
+fn write_three(out: &mut [u8], kind: u8, first: u32, second: u32, third: u32) -> usize
+    requires { ⌜ 13 ≤ length (now out) ⌝ }
+    ensures wrote { λ r. ⌜ now (out .exit) ≡ (kind ∷ (four first ++ (four second ++ four third))) ++ drop r (now (out .entry)) ⌝ }
+    ensures many { λ r. ⌜ r ≡ 13 ⌝ }
+{
+    let [a, b, c, d] = first.to_le_bytes();
+    let [e, f, g, h] = second.to_le_bytes();
+    let [i, j, k, l] = third.to_le_bytes();
+    out[0..13].copy_from_slice(&[kind, a, b, c, d, e, f, g, h, i, j, k, l]);
+    13
 }
 
 /// The call that bytes are, or the refusal whose place is the first byte that no call could have there, or their length where they end too early.
