@@ -1,0 +1,3 @@
+pub mod Page
+pub mod Turns
+pub mod Room
