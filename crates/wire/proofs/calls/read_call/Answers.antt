@@ -4,7 +4,7 @@ use native.Mathlib.Omega.{arith}
 use borrow.Author.Tests.{ltb-false}
 use Rattle.wire.specs.ReadingCalls.{read-call, call-by}
 use Rattle.wire.proofs.Parts.{read-by-first}
-use Rattle.wire.proofs.read_call.Needs as need
+use Rattle.wire.proofs.calls.read_call.Needs as need
 
 pub returns-in-0 : need.returns-in-0
 returns-in-0 c = read-by-first read-call call-by (λ _ _. refl) 0 (c .args .bytes .now) _ (omega (arith, ltb-false)) (c .in-0 .is) (c .read-put .ensures)

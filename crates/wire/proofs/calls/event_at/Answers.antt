@@ -4,7 +4,7 @@ use native.Mathlib.Omega.{arith}
 use borrow.Author.Tests.{ltb-false}
 use Rattle.wire.specs.ReadingCalls.{event-at, event-by}
 use Rattle.wire.proofs.Parts.{read-by-first}
-use Rattle.wire.proofs.event_at.Needs as need
+use Rattle.wire.proofs.calls.event_at.Needs as need
 
 pub returns-in-0 : need.returns-in-0
 returns-in-0 c =

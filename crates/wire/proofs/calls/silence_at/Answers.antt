@@ -7,7 +7,7 @@ use Prim.Native.Nat.{_-_}
 use Rattle.score.specs.Music.{silence}
 use Rattle.wire.specs.Reading.{of-two}
 use Rattle.wire.proofs.Parts.{made-of-four}
-use Rattle.wire.proofs.silence_at.Needs as need
+use Rattle.wire.proofs.calls.silence_at.Needs as need
 
 pub returns : need.returns
 returns c =

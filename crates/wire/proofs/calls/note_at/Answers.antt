@@ -7,7 +7,7 @@ use Prim.Native.Nat.{_-_}
 use Rattle.score.specs.Music.{note}
 use Rattle.wire.specs.Reading.{of-two}
 use Rattle.wire.proofs.Parts.{made-of-four}
-use Rattle.wire.proofs.note_at.Needs as need
+use Rattle.wire.proofs.calls.note_at.Needs as need
 
 pub returns : need.returns
 returns c =

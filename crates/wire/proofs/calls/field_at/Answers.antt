@@ -6,7 +6,7 @@ use lib.ListN.{length, take, drop}
 use Prim.Native.Nat.{_-_}
 use Rattle.wire.specs.Reading.{of-four}
 use Rattle.wire.proofs.Parts.{made-of-four}
-use Rattle.wire.proofs.field_at.Needs as need
+use Rattle.wire.proofs.calls.field_at.Needs as need
 
 pub returns : need.returns
 returns c =
