@@ -6,7 +6,7 @@ use Prim.Native.Nat.{ℕ, suc, _+_, _-_, _*_, _≤_, _<_}
 use native.Mathlib.Omega.{arith}
 use lib.ListN.{length, getD, take, drop, replicate}
 use Rattle.std.specs.shelf.Lists.{between, sum, sumBy}
-use Rattle.std.proofs.shelf.Lists.{append-assoc, append-nil, length-append, length-map, map-append, take-map, getD-map, getD-drop, getD-append-left, getD-append-right, take-append-le, take-all, take-at, drop-at, drop-drop}
+use Rattle.std.proofs.shelf.Lists.{append-assoc, append-nil, length-append, length-map, map-append, take-map, getD-map, getD-drop, getD-append-left, getD-append-right, getD-past, take-append-le, take-all, take-at, drop-at, drop-drop}
 use Rattle.std.proofs.shelf.Sums.{sum-map, sumBy-cons, sumBy-take-le}
 use Rattle.score.specs.Music.{Event, silence, lasts, total, fine, all-fine, places, alterations, length-end}
 use Rattle.score.specs.Calls.{Limits, Layout, Score, voice, all-events}
@@ -220,6 +220,15 @@ module _ (w : List ℕ) (h : Holds w) where
         within = omega (arith, within-limit v lt);
         events = events-there v begin count lt eb ec2;
       }
+
+  -- one that is not there has no events
+  pub no-voice : (v : ℕ) → voices-in w ≤ v → length (voice (score-of w) v) ≡ 0
+  no-voice v le = ap length (getD-past (score-of w) v [] (omega (arith, h .kept .so-many)))
+
+  pub place-within : (v i : ℕ) → v < voices-in w → i < length (voice (score-of w) v) → all-events (take v (score-of w)) + i < all-events (score-of w)
+  place-within v i lv li =
+      let c2 : v < length (score-of w) = rw (h .kept .so-many) lv in
+      omega (arith, voice-le (score-of w) v c2)
 
   -- and one of its events
   module _ (v i : ℕ) (d : Event) (lv : v < voices-in w) (li : i < length (voice (score-of w) v)) where

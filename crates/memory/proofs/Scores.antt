@@ -7,7 +7,7 @@ use native.Mathlib.Omega.{arith}
 use lib.Dec.{ltb}
 use lib.ListN.{length, getD, set, take, drop}
 use Rattle.std.proofs.shelf.Lists.{append-assoc, length-append, take-append-drop}
-use Rattle.std.proofs.shelf.Tests.{and-parts, and-from, ltb-true}
+use Rattle.std.proofs.shelf.Tests.{and-parts, and-from, and-left, and-right, ltb-true, lt-ltb, le-ltb}
 use Rattle.score.specs.Music.{Event, note, silence, lasts, total, fine, all-fine, places, alterations, length-end, fine-length}
 use Rattle.score.specs.Calls.{Score, voice, all-events, none-too-long, ticks-end}
 use Rattle.memory.specs.Store.{stands, alters, flat, all-fines}
@@ -28,6 +28,24 @@ fine-fields (silence d) h =
 pub fine-place : (p a d : ℕ) → fine (note p a d) ≡ true → p < places
 unfolding fine
 fine-place p a d h = ltb-true p places (and-parts (ltb p places) (ltb a alterations) (and-parts (ltb p places && ltb a alterations) (fine-length d) h .0) .0)
+
+-- as a test of its fields finds it
+module _ (p a d : ℕ) where
+  pub unfine-place : places ≤ p → fine (note p a d) ≡ false
+  unfolding fine
+  unfine-place h = and-left _ _ (and-left _ _ (le-ltb p places h))
+
+  pub unfine-alteration : alterations ≤ a → fine (note p a d) ≡ false
+  unfolding fine
+  unfine-alteration h = and-left _ _ (and-right _ _ (le-ltb a alterations h))
+
+  pub fine-by-length : p < places → a < alterations → fine (note p a d) ≡ fine-length d
+  unfolding fine
+  fine-by-length hp ha = ap (λ b. b && fine-length d) (and-from _ _ (lt-ltb p places hp) (lt-ltb a alterations ha))
+
+pub fine-silence : (d : ℕ) → fine (silence d) ≡ fine-length d
+unfolding fine
+fine-silence d = refl
 
 pub fine-append : (xs ys : List Event) → all-fine (xs ++ ys) ≡ (all-fine xs && all-fine ys)
 unfolding all-fine

@@ -1,14 +1,16 @@
 //! Voices in lent words: where the events of a voice lie, how long it is, and the calls that put, cut and change events.
 ghost use mathlib.Core.Path.{_≡_};
 ghost use Prim.Native.Nat.{_+_, _^_, _<_, _≤_};
-ghost use lib.ListN.{length, take};
-ghost use Rattle.std.specs.Options.{Cases as BySome};
+ghost use lib.ListN.{length, getD, take};
+ghost use Rattle.std.specs.Options.{Cases as BySome, mapped};
 ghost use Rattle.std.specs.shelf.Lists.{sum};
-ghost use Rattle.score.specs.Music.{total};
+ghost use Rattle.score.specs.Meaning.{event-meant};
+ghost use Rattle.score.specs.Music.{total, fine, fine-length};
 ghost use Rattle.score.specs.Calls.{all-events, ticks-end, how-long, voice as voice-of-score};
+ghost use Rattle.laws.specs.Rows.{event-of};
 ghost use Rattle.memory.specs.Store.{voices-in, limit-in, places-from, alterations-from, lengths-from, score-of};
 ghost use Rattle.memory.specs.Words.{Holds, Spans, answer-at};
-ghost use Rattle.voices.specs.Said.{said-number};
+ghost use Rattle.voices.specs.Said.{said-number, event-at};
 use score::Event;
 use score::Refusal;
 
@@ -20,6 +22,13 @@ const VOICES: usize = 2;
 const LIMIT: usize = 3;
 
 const COUNTS: usize = 4;
+
+/// The place that a silence's word has, behind those of notes; how many alterations there are; and the first length of a voice that is too long.
+const PLACES: u8 = 70;
+
+const ALTERATIONS: u8 = 5;
+
+const TICKS_END: u32 = 1 << 24;
 
 /// Where the events of a voice lie in each of the three regions: so many words from a beginning on.
 #[derive(Clone, Copy)]
@@ -112,4 +121,86 @@ pub fn how_long(words: &[u32], voice: u32) -> Result<u32, Refusal>
         return Err(Refusal::NoVoice(voice));
     };
     Ok(ticks_of(words, index))
+}
+
+impl Span {
+    /// The place of the event of an index, in each region.
+    fn find_event(self, index: u32) -> Option<usize>
+        requires { ⌜ self .begin + self .count < 2 ^ 32 ⌝ }
+        ensures { λ r. ⌜ BySome r (self .count ≤ index) (λ at. (index < self .count) × (at ≡ self .begin + index)) ⌝ }
+    {
+        if index as usize >= self.count {
+            return None;
+        }
+        Some(self.begin + index as usize)
+    }
+
+    /// The place before the event of an index, or behind the last, in each region.
+    fn find_gap(self, index: u32) -> Option<usize>
+        requires { ⌜ self .begin + self .count < 2 ^ 32 ⌝ }
+        ensures { λ r. ⌜ BySome r (self .count < index) (λ at. (index ≤ self .count) × (at ≡ self .begin + index)) ⌝ }
+    {
+        if index as usize > self.count {
+            return None;
+        }
+        Some(self.begin + index as usize)
+    }
+}
+
+/// The event whose words lie at a place in each region.
+fn event_from(words: &[u32], at: usize) -> Event
+    requires { ⌜ Holds (now words) ⌝ ∗ ⌜ at < all-events (score-of (now words)) ⌝ }
+    ensures { λ r. ⌜ event-meant r ≡ event-of (getD (now (words .entry)) (places-from (now (words .entry)) + at) 0) (getD (now (words .entry)) (alterations-from (now (words .entry)) + at) 0) (getD (now (words .entry)) (lengths-from (now (words .entry)) + at) 0) ⌝ }
+{
+    let regions = regions_of(words);
+    let place = words[regions.places + at] as u8;
+    let alteration = words[regions.alterations + at] as u8;
+    let length = words[regions.lengths + at] as u16;
+    if place == PLACES {
+        return Event::Silence { length };
+    }
+    Event::Note {
+        place,
+        alteration,
+        length,
+    }
+}
+
+/// The event of a voice at an index, if it is there.
+pub fn find_event(words: &[u32], voice: u32, index: u32) -> Option<Event>
+    requires { ⌜ Holds (now words) ⌝ }
+    ensures { λ r. ⌜ mapped event-meant r ≡ event-at (score-of (now (words .entry))) voice index ⌝ }
+{
+    let span = find_voice(words, voice)?;
+    let at = span.find_event(index)?;
+    Some(event_from(words, at))
+}
+
+/// Whether a length can be written: 3 ticks, or a multiple of that.
+fn is_fine_length(length: u16) -> bool
+    ensures { λ r. ⌜ r ≡ fine-length length ⌝ }
+{
+    length > 0 && length % 3 == 0
+}
+
+/// Whether an event can be written.
+pub fn is_fine(event: Event) -> bool
+    ensures { λ r. ⌜ r ≡ fine (event-meant event) ⌝ }
+{
+    match event {
+        Event::Note {
+            place,
+            alteration,
+            length,
+        } => {
+            if place >= PLACES {
+                return false;
+            }
+            if alteration >= ALTERATIONS {
+                return false;
+            }
+            is_fine_length(length)
+        }
+        Event::Silence { length } => is_fine_length(length),
+    }
 }
