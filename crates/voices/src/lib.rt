@@ -1,20 +1,26 @@
 //! Voices in lent words: where the events of a voice lie, how long it is, and the calls that put, cut and change events.
+ghost use mathlib.Core.Bool.{false};
 ghost use mathlib.Core.Path.{_≡_};
-ghost use Prim.Native.Nat.{_+_, _^_, _<_, _≤_};
+ghost use Prim.Native.Nat.{_+_, _-_, _^_, _<_, _≤_};
 ghost use lib.ListN.{length, getD, take};
 ghost use Rattle.std.specs.Options.{Cases as BySome, mapped};
 ghost use Rattle.std.specs.shelf.Lists.{sum};
 ghost use Rattle.score.specs.Meaning.{event-meant};
-ghost use Rattle.score.specs.Music.{total, fine, fine-length};
+ghost use Rattle.score.specs.Music.{length-end, lasts, total, fine, fine-length};
 ghost use Rattle.score.specs.Calls.{all-events, ticks-end, how-long, voice as voice-of-score};
 ghost use Rattle.laws.specs.Rows.{event-of};
-ghost use Rattle.memory.specs.Store.{voices-in, limit-in, places-from, alterations-from, lengths-from, score-of};
+ghost use Rattle.memory.specs.Store.{stands, alters, voices-in, limit-in, places-from, alterations-from, lengths-from, score-of};
 ghost use Rattle.memory.specs.Words.{Holds, Spans, answer-at};
+ghost use Rattle.memory.specs.Moves.{with-event, without-event, with-other};
+ghost use Rattle.voices.specs.Rows.{Row-of};
 ghost use Rattle.voices.specs.Said.{said-number, event-at};
-use score::Event;
-use score::Refusal;
 
 mod moves;
+
+use moves::insert_at;
+use moves::remove_at;
+use score::Event;
+use score::Refusal;
 
 /// The header's words for how many voices there are and how many events there may be; behind it is the count of the first voice.
 const VOICES: usize = 2;
@@ -203,4 +209,96 @@ pub fn is_fine(event: Event) -> bool
         }
         Event::Silence { length } => is_fine_length(length),
     }
+}
+
+/// An event as it lies in the regions.
+#[derive(Clone, Copy)]
+struct Row {
+    place: u32,
+    alteration: u32,
+    length: u32,
+}
+
+/// The words of an event.
+fn row_of(event: Event) -> Row
+    ensures place { λ r. ⌜ r .place ≡ stands (event-meant event) ⌝ }
+    ensures alteration { λ r. ⌜ r .alteration ≡ alters (event-meant event) ⌝ }
+    ensures ticks { λ r. ⌜ r .length ≡ lasts (event-meant event) ⌝ }
+    ensures small { λ r. ⌜ r .length < length-end ⌝ }
+{
+    match event {
+        Event::Note {
+            place,
+            alteration,
+            length,
+        } => Row {
+            place: place as u32,
+            alteration: alteration as u32,
+            length: length as u32,
+        },
+        Event::Silence { length } => Row {
+            place: PLACES as u32,
+            alteration: 0,
+            length: length as u32,
+        },
+    }
+}
+
+/// The words of an event, if it can be written.
+fn find_row(event: Event) -> Option<Row>
+    ensures { λ r. ⌜ BySome r (fine (event-meant event) ≡ false) (λ q. Row-of (event-meant event) (q .place) (q .alteration) (q .length)) ⌝ }
+{
+    if !is_fine(event) {
+        return None;
+    }
+    Some(row_of(event))
+}
+
+/// How many events there are, if there may be one more.
+fn find_room(words: &[u32]) -> Option<usize>
+    requires { ⌜ Holds (now words) ⌝ }
+    ensures { λ r. ⌜ BySome r (limit-in (now (words .entry)) ≤ all-events (score-of (now (words .entry)))) (λ u. (u ≡ all-events (score-of (now (words .entry)))) × (u < limit-in (now (words .entry)))) ⌝ }
+{
+    let used = events_before(words, words[VOICES] as usize);
+    if used >= words[LIMIT] as usize {
+        return None;
+    }
+    Some(used)
+}
+
+/// How long a voice is with some ticks less and some more, if that is not too long.
+fn find_ticks(words: &[u32], voice: usize, less: u32, more: u32) -> Option<u32>
+    requires { ⌜ Holds (now words) ⌝ ∗ ⌜ voice < voices-in (now words) ⌝ ∗ ⌜ less ≤ total (voice-of-score (score-of (now words)) voice) ⌝ ∗ ⌜ more < length-end ⌝ }
+    ensures { λ r. ⌜ BySome r (ticks-end ≤ total (voice-of-score (score-of (now (words .entry))) voice) - less + more) (λ t. (t ≡ total (voice-of-score (score-of (now (words .entry))) voice) - less + more) × (t < ticks-end)) ⌝ }
+{
+    let ticks = ticks_of(words, voice) - less + more;
+    if ticks >= TICKS_END {
+        return None;
+    }
+    Some(ticks)
+}
+
+/// An event comes in at a place of each region, into a voice that is then so many ticks long.
+fn insert_event(words: &mut [u32], voice: usize, used: usize, at: usize, ticks: u32, row: Row)
+    requires { ⌜ Holds (now words) ⌝ ∗ ⌜ voice < voices-in (now words) ⌝ ∗ ⌜ at ≤ used ⌝ ∗ ⌜ used < limit-in (now words) ⌝ }
+    ensures { λ _. ⌜ now (words .exit) ≡ with-event (now (words .entry)) voice used at ticks (row .place) (row .alteration) (row .length) ⌝ }
+{
+    let regions = regions_of(words);
+    let count = words[COUNTS + voice];
+    let ticks_at = COUNTS + words[VOICES] as usize + voice;
+    insert_at(words, regions.places + at, regions.places + used, row.place);
+    insert_at(
+        words,
+        regions.alterations + at,
+        regions.alterations + used,
+        row.alteration,
+    );
+    insert_at(
+        words,
+        regions.lengths + at,
+        regions.lengths + used,
+        row.length,
+    );
+    words[COUNTS + voice] = count + 1;
+    words[ticks_at] = ticks;
 }
