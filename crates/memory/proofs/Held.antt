@@ -230,6 +230,11 @@ module _ (w : List ℕ) (h : Holds w) where
       let c2 : v < length (score-of w) = rw (h .kept .so-many) lv in
       omega (arith, voice-le (score-of w) v c2)
 
+  pub gap-within : (v i : ℕ) → v < voices-in w → i ≤ length (voice (score-of w) v) → all-events (take v (score-of w)) + i ≤ all-events (score-of w)
+  gap-within v i lv li =
+      let c2 : v < length (score-of w) = rw (h .kept .so-many) lv in
+      omega (arith, voice-le (score-of w) v c2)
+
   -- and one of its events
   module _ (v i : ℕ) (d : Event) (lv : v < voices-in w) (li : i < length (voice (score-of w) v)) where
     abbrev E : Event
@@ -246,3 +251,6 @@ module _ (w : List ℕ) (h : Holds w) where
         let t = word-at lasts (lengths-from w) v i d lengths-region lv li in
         let b = event-back E event-fine in
         ap (λ j. event-of (getD w (places-from w + j) 0) (getD w (alterations-from w + j) 0) (getD w (lengths-from w + j) 0)) e ∙ (cc)
+
+    pub length-there : (at : ℕ) → at ≡ all-events (take v (score-of w)) + i → getD w (lengths-from w + at) 0 ≡ lasts E
+    length-there at e = ap (λ j. getD w (lengths-from w + j) 0) e ∙ word-at lasts (lengths-from w) v i d lengths-region lv li

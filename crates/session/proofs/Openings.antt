@@ -61,7 +61,7 @@ sized o s t words bytes e f =
     let w : t .words ≡ words-asked (o .voices) (o .events) = ap (λ (x : Sizes). x .words) (q .1 ∙ p .1) in
     let b : t .bytes ≡ bytes-asked (o .events) = ap (λ (x : Sizes). x .bytes) (q .1 ∙ p .1) in
     let there : (leb (words-asked (o .voices) (o .events)) words && leb (bytes-asked (o .events)) bytes) ≡ true =
-        ap (λ (x : Sizes). leb (x .words) words && leb (x .bytes) bytes) (sym (p .1)) ∙ q .0 in
+    ap (λ (x : Sizes). leb (x .words) words && leb (x .bytes) bytes) (sym (p .1)) ∙ q .0 in
     record {
       fits = p .0;
       words-are = w;
@@ -87,12 +87,12 @@ opened o w b W B n m e en em eW eB =
     let pw : postOf 0 (n - 0) w ≡ drop (length W) w = post-is 0 n w (omega arith) ∙ ap (λ x. drop x w) lw in
     let pb : postOf 0 (m - 0) b ≡ drop (length B) b = post-is 0 m b (omega arith) ∙ ap (λ x. drop x b) (sym taken ∙ sym lb) in
     subst (λ (x : List ℕ). Opened o w b (W ++ x) (B ++ postOf 0 (m - 0) b)) (sym pw)
-      (subst (λ (x : List ℕ). Opened o w b (W ++ drop (length W) w) (B ++ x)) (sym pb)
-        (record {
-          memory =
-            memory-front W (drop (length W) w) B (drop (length B) b) h lb
-            ∙ ap (λ (x : List ℕ). record { words = x; bytes = B }) eW
-            ∙ ap (λ (x : List ℕ). record { words = stored (limits-for o) (layout-for o) (empty-voices (o .voices)); bytes = x }) (eB ∙ ap (λ x. replicate x 0) em);
-          past = untouched w b W B h lb;
-          ready = ready W (drop (length W) w) (B ++ drop (length B) b) h (rw length-append (omega arith));
-        }))
+    (subst (λ (x : List ℕ). Opened o w b (W ++ drop (length W) w) (B ++ x)) (sym pb)
+    (record {
+      memory =
+          memory-front W (drop (length W) w) B (drop (length B) b) h lb
+          ∙ ap (λ (x : List ℕ). record { words = x; bytes = B }) eW
+          ∙ ap (λ (x : List ℕ). record { words = stored (limits-for o) (layout-for o) (empty-voices (o .voices)); bytes = x }) (eB ∙ ap (λ x. replicate x 0) em);
+      past = untouched w b W B h lb;
+      ready = ready W (drop (length W) w) (B ++ drop (length B) b) h (rw length-append (omega arith));
+    }))

@@ -7,13 +7,13 @@ ghost use Rattle.std.specs.Options.{Cases as BySome, mapped};
 ghost use Rattle.std.specs.shelf.Lists.{sum};
 ghost use Rattle.score.specs.Meaning.{event-meant};
 ghost use Rattle.score.specs.Music.{length-end, lasts, total, fine, fine-length};
-ghost use Rattle.score.specs.Calls.{all-events, ticks-end, how-long, voice as voice-of-score};
+ghost use Rattle.score.specs.Calls.{all-events, ticks-end, put as put-call, cut as cut-call, change as change-call, how-long, voice as voice-of-score};
 ghost use Rattle.laws.specs.Rows.{event-of};
 ghost use Rattle.memory.specs.Store.{stands, alters, voices-in, limit-in, places-from, alterations-from, lengths-from, score-of};
-ghost use Rattle.memory.specs.Words.{Holds, Spans, answer-at};
+ghost use Rattle.memory.specs.Words.{Holds, Spans, answer-at, next-words};
 ghost use Rattle.memory.specs.Moves.{with-event, without-event, with-other};
 ghost use Rattle.voices.specs.Rows.{Row-of};
-ghost use Rattle.voices.specs.Said.{said-number, event-at};
+ghost use Rattle.voices.specs.Said.{said-done, said-number, event-at};
 
 mod moves;
 
@@ -254,12 +254,21 @@ fn find_row(event: Event) -> Option<Row>
     Some(row_of(event))
 }
 
+/// How many events there are in all voices.
+fn events_in(words: &[u32]) -> usize
+    requires { ⌜ Holds (now words) ⌝ }
+    ensures value { λ r. ⌜ r ≡ all-events (score-of (now (words .entry))) ⌝ }
+    ensures small { λ r. ⌜ r ≤ limit-in (now (words .entry)) ⌝ }
+{
+    events_before(words, words[VOICES] as usize)
+}
+
 /// How many events there are, if there may be one more.
 fn find_room(words: &[u32]) -> Option<usize>
     requires { ⌜ Holds (now words) ⌝ }
     ensures { λ r. ⌜ BySome r (limit-in (now (words .entry)) ≤ all-events (score-of (now (words .entry)))) (λ u. (u ≡ all-events (score-of (now (words .entry)))) × (u < limit-in (now (words .entry)))) ⌝ }
 {
-    let used = events_before(words, words[VOICES] as usize);
+    let used = events_in(words);
     if used >= words[LIMIT] as usize {
         return None;
     }
@@ -301,4 +310,73 @@ fn insert_event(words: &mut [u32], voice: usize, used: usize, at: usize, ticks: 
     );
     words[COUNTS + voice] = count + 1;
     words[ticks_at] = ticks;
+}
+
+/// Puts an event into a voice, before its event of an index or last.
+pub fn put(words: &mut [u32], voice: u32, index: u32, event: Event) -> Result<(), Refusal>
+    requires { ⌜ Holds (now words) ⌝ }
+    ensures said { λ r. ⌜ said-done r ≡ answer-at (now (words .entry)) (put-call voice index (event-meant event)) ⌝ }
+    ensures left { λ _. ⌜ now (words .exit) ≡ next-words (now (words .entry)) (put-call voice index (event-meant event)) ⌝ }
+    ensures holds { λ _. ⌜ Holds (now (words .exit)) ⌝ }
+{
+    let Some(row) = find_row(event) else {
+        return Err(Refusal::OutOfRange);
+    };
+    let Some(span) = find_voice(words, voice) else {
+        return Err(Refusal::NoVoice(voice));
+    };
+    let Some(at) = span.find_gap(index) else {
+        return Err(Refusal::NoEvent(index));
+    };
+    let Some(used) = find_room(words) else {
+        return Err(Refusal::Full);
+    };
+    let Some(ticks) = find_ticks(words, voice as usize, 0, row.length) else {
+        return Err(Refusal::Full);
+    };
+    insert_event(words, voice as usize, used, at, ticks, row);
+    Ok(())
+}
+
+/// How long the event is whose words lie at a place in each region.
+fn length_at(words: &[u32], at: usize) -> u32
+    requires { ⌜ Holds (now words) ⌝ ∗ ⌜ at < limit-in (now words) ⌝ }
+    ensures { λ r. ⌜ r ≡ getD (now (words .entry)) (lengths-from (now (words .entry)) + at) 0 ⌝ }
+{
+    let regions = regions_of(words);
+    words[regions.lengths + at]
+}
+
+/// The event at a place goes out of each region, from a voice that is then so many ticks long.
+fn remove_event(words: &mut [u32], voice: usize, used: usize, at: usize, ticks: u32)
+    requires { ⌜ Holds (now words) ⌝ ∗ ⌜ voice < voices-in (now words) ⌝ ∗ ⌜ 0 < getD (now words) (4 + voice) 0 ⌝ ∗ ⌜ at < used ⌝ ∗ ⌜ used ≤ limit-in (now words) ⌝ }
+    ensures { λ _. ⌜ now (words .exit) ≡ without-event (now (words .entry)) voice used at ticks ⌝ }
+{
+    let regions = regions_of(words);
+    let count = words[COUNTS + voice];
+    let ticks_at = COUNTS + words[VOICES] as usize + voice;
+    remove_at(words, regions.places + at, regions.places + used);
+    remove_at(words, regions.alterations + at, regions.alterations + used);
+    remove_at(words, regions.lengths + at, regions.lengths + used);
+    words[COUNTS + voice] = count - 1;
+    words[ticks_at] = ticks;
+}
+
+/// Cuts the event of an index out of a voice.
+pub fn cut(words: &mut [u32], voice: u32, index: u32) -> Result<(), Refusal>
+    requires { ⌜ Holds (now words) ⌝ }
+    ensures said { λ r. ⌜ said-done r ≡ answer-at (now (words .entry)) (cut-call voice index) ⌝ }
+    ensures left { λ _. ⌜ now (words .exit) ≡ next-words (now (words .entry)) (cut-call voice index) ⌝ }
+    ensures holds { λ _. ⌜ Holds (now (words .exit)) ⌝ }
+{
+    let Some(span) = find_voice(words, voice) else {
+        return Err(Refusal::NoVoice(voice));
+    };
+    let Some(at) = span.find_event(index) else {
+        return Err(Refusal::NoEvent(index));
+    };
+    let ticks = ticks_of(words, voice as usize) - length_at(words, at);
+    let used = events_in(words);
+    remove_event(words, voice as usize, used, at, ticks);
+    Ok(())
 }

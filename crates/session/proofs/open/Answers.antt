@@ -13,7 +13,7 @@ returns c =
     let n : c .in-Some-within .asked .bytes - 0 ≡ c .in-Some-within .asked .bytes = omega arith in
     let within : c .in-Some-within .asked .bytes - 0 ≤ length (c .args .bytes .now) = omega (arith, s .bytes-room) in
     let zeros : c .fill .last .self ≡ replicate (c .in-Some-within .asked .bytes) 0 =
-        c .fill .ensures .after (λ y h. h) ∙ ap (λ m. replicate m 0) (length-take-le _ _ within ∙ n) in
+    c .fill .ensures .after (λ y h. h) ∙ ap (λ m. replicate m 0) (length-take-le _ _ within ∙ n) in
     record {
       said = s .said;
       left = opened (c .args .opening) _ _ _ _ _ _ (s .fits) (s .words-are) (s .bytes-are) (c .lay-out .ensures) zeros;
