@@ -9,6 +9,7 @@ use Rattle.std.proofs.shelf.Tests.{le-leb, lt-leb, cases-eq}
 use Rattle.std.proofs.shelf.Lists.{drop-more, drop-all, drop-drop, take-more-set, drop-set-lt, take-append-drop, length-take-le, length-set}
 use Rattle.score.specs.Print.{all-values, largest, pieces}
 use Rattle.score.proofs.Picks.{pick-true, pick-false}
+use Rattle.lengths.specs.Drawn.{Largest}
 use Rattle.laws.proofs.Pieces.{value-none, value-good, value-some, pieces-first, pieces-none}
 use Rattle.laws.proofs.Few.{count, count-few}
 
@@ -17,7 +18,7 @@ largest-here : (vs : List ℕ) (k n : ℕ) → k < length vs → getD vs k 0 ≤
 unfolding largest
 largest-here vs k n h le = rw (drop-more vs k 0 h) (pick-true _ _ _ (le-leb _ _ le))
 
-pub largest-later : (vs : List ℕ) (k n : ℕ) → k < length vs → n < getD vs k 0 → largest n (drop k vs) ≡ largest n (drop (k + 1) vs)
+largest-later : (vs : List ℕ) (k n : ℕ) → k < length vs → n < getD vs k 0 → largest n (drop k vs) ≡ largest n (drop (k + 1) vs)
 unfolding largest
 largest-later vs k n h lt = rw (drop-more vs k 0 h) (pick-false _ _ _ (lt-leb _ _ lt))
 
@@ -25,29 +26,34 @@ largest-no : (vs : List ℕ) (k n : ℕ) → length vs ≤ k → largest n (drop
 unfolding largest
 largest-no vs k n h = rw (drop-all k vs h) refl
 
--- what a search that found v says of it
-pub record Found (n v : ℕ) : Type 0 where
-  pub is : v ≡ largest n all-values
-  pub within : v ≤ n
-  pub small : v ≤ 192
-  pub three : v % 3 ≡ 0
-  pub some : 3 ≤ n → 0 < v
-
-found : (n v : ℕ) → v ≡ largest n all-values → Found n v
-found n v e = go (cases-eq (largest n all-values) 0)
+pub largest-known : (n v : ℕ) → v ≡ largest n all-values → Largest n v
+largest-known n v e = go (cases-eq (largest n all-values) 0)
   where
-    go : (largest n all-values ≡ 0) ⊎ (largest n all-values ≡ 0 → ⊥) → Found n v
+    go : (largest n all-values ≡ 0) ⊎ (largest n all-values ≡ 0 → ⊥) → Largest n v
     go (inl z) = record { is = e; within = omega arith; small = omega arith; three = ap (λ (x : ℕ). x % 3) (e ∙ z); some = (λ h. absurd (omega (arith, value-none n z))) }
     go (inr f) =
         let g = value-some n f in
         let w = value-good (largest n all-values) (g .3) in
         record { is = e; within = omega arith; small = omega arith; three = ap (λ (x : ℕ). x % 3) e ∙ g .2; some = (λ h. omega arith) }
 
-pub found-here : (k n : ℕ) → k < 12 → getD all-values k 0 ≤ n → largest n (drop k all-values) ≡ largest n all-values → Found n (getD all-values k 0)
-found-here k n h le e = found n (getD all-values k 0) (sym (largest-here all-values k n h le) ∙ e)
+-- The search at the i-th value: those before it are too long, so it is the largest if it fits, and where the table ends there is none.
+pub record Searching (n i : ℕ) : Type 0 where
+  pub passed : largest n (drop i all-values) ≡ largest n all-values
+  pub here : i < 12 → getD all-values i 0 ≤ n → Largest n (getD all-values i 0)
+  pub none : 12 ≤ i → Largest n 0
 
-pub found-none : (k n : ℕ) → 12 ≤ k → largest n (drop k all-values) ≡ largest n all-values → Found n 0
-found-none k n h e = found n 0 (sym (largest-no all-values k n h) ∙ e)
+searching : (n i : ℕ) → largest n (drop i all-values) ≡ largest n all-values → Searching n i
+searching n i e = record {
+  passed = e;
+  here = (λ h le. largest-known n (getD all-values i 0) (sym (largest-here all-values i n h le) ∙ e));
+  none = (λ h. largest-known n 0 (sym (largest-no all-values i n h) ∙ e));
+}
+
+pub search-start : (n : ℕ) → Searching n 0
+search-start n = searching n 0 refl
+
+pub search-on : (n i : ℕ) → Searching n i → i < 12 → n < getD all-values i 0 → Searching n (i + 1)
+search-on n i s h l = searching n (i + 1) (sym (largest-later all-values i n h l) ∙ s .passed)
 
 -- Values written over the front of a row that was lent: what is written and what is still owed is all of it, and the rest is as it was.
 pub record Writing (n at left : ℕ) (was out : List ℕ) : Type 0 where

@@ -1,10 +1,9 @@
 //! A length in values, and how much of it lies in a bar: what the engraving of an event stands on.
 ghost use mathlib.Core.List.{_++_};
 ghost use mathlib.Core.Path.{_≡_};
-ghost use Prim.Native.Nat.{_+_, _-_, _/_, _%_, _<_, _≤_};
+ghost use Prim.Native.Nat.{_+_, _/_, _≤_};
 ghost use lib.ListN.{length, drop};
-ghost use Rattle.score.specs.Print.{all-values, lesser};
-ghost use Rattle.score.specs.Print.{largest as largest-of};
+ghost use Rattle.lengths.specs.Drawn.{Largest, In-bar};
 ghost use Rattle.score.specs.Print.{pieces as pieces-of};
 
 /// The values that can be drawn, in ticks: from the whole note down to the sixty-fourth, plain or with a dot.
@@ -15,10 +14,7 @@ const SHORTEST: u32 = 3;
 
 /// The largest value that is not longer than `n`, or 0 where there is none.
 pub fn largest(n: u32) -> u32
-    ensures is { λ r. ⌜ r ≡ largest-of n all-values ⌝ }
-    ensures within { λ r. ⌜ r ≤ n ⌝ ∗ ⌜ r ≤ 192 ⌝ }
-    ensures three { λ r. ⌜ r % 3 ≡ 0 ⌝ }
-    ensures some { λ r. ⌜ (3 ≤ n → 0 < r) ⌝ }
+    ensures { λ r. ⌜ Largest n r ⌝ }
 {
     for v in VALUES {
         if v <= n {
@@ -31,10 +27,7 @@ pub fn largest(n: u32) -> u32
 /// How much of what is left of an event lies in a bar of `measure` ticks, of which `begun` are gone.
 pub fn part_in_bar(left: u32, measure: u32, begun: u32) -> u32
     requires { ⌜ begun ≤ measure ⌝ }
-    ensures is { λ r. ⌜ r ≡ lesser left (measure - begun) ⌝ }
-    ensures within { λ r. ⌜ r ≤ left ⌝ ∗ ⌜ begun + r ≤ measure ⌝ }
-    ensures some { λ r. ⌜ (0 < left → begun < measure → 0 < r) ⌝ }
-    ensures three { λ r. ⌜ (left % 3 ≡ 0 → measure % 3 ≡ 0 → begun % 3 ≡ 0 → r % 3 ≡ 0) ⌝ }
+    ensures { λ r. ⌜ In-bar left measure begun r ⌝ }
 {
     left.min(measure - begun)
 }
