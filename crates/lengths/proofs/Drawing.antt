@@ -55,46 +55,50 @@ search-start n = searching n 0 refl
 pub search-on : (n i : ℕ) → Searching n i → i < 12 → n < getD all-values i 0 → Searching n (i + 1)
 search-on n i s h l = searching n (i + 1) (sym (largest-later all-values i n h l) ∙ s .passed)
 
--- Values written over the front of a row that was lent: what is written and what is still owed is all of it, and the rest is as it was.
-pub record Writing (n at left : ℕ) (was out : List ℕ) : Type 0 where
-  pub front : take at out ++ pieces left left ≡ pieces n n
-  pub back : drop at out ≡ drop at was
-  pub within : at ≤ length out
+-- Values written over the front of a row that was lent: what is written and what is still owed is all of it, the rest is as it was, and there is
+-- room for what is written.
+unfoldable pub Writing : ℕ → ℕ → ℕ → List ℕ → List ℕ → Type 0
+Writing n at left was out = (take at out ++ pieces left left ≡ pieces n n) × (drop at out ≡ drop at was) × (at ≤ length out)
 
 pub start : (n : ℕ) (out : List ℕ) → Writing n 0 n out out
-start n out = record { front = refl; back = refl; within = omega arith }
+unfolding Writing
+start n out = (refl, refl, omega arith)
 
 -- there is room for the next value
 pub room : (n at left : ℕ) (was out : List ℕ) → Writing n at left was out → n / 192 + 3 ≤ length out → 3 ≤ left → at < length out
-unfolding count
+unfolding count Writing
 room n at left was out w h l =
     let f = value-some left (λ z. omega (arith, value-none left z)) in
-    let e : length (take at out) + length (pieces left left) ≡ length (pieces n n) = sym (length-append (take at out) (pieces left left)) ∙ ap length (w .front) in
-    let t = length-take-le at out (w .within) in
+    let e : length (take at out) + length (pieces left left) ≡ length (pieces n n) = sym (length-append (take at out) (pieces left left)) ∙ ap length (w .0) in
+    let t = length-take-le at out (w .2) in
     let p = ap length (pieces-first left (largest left all-values) refl (λ z. omega arith)) in
     omega (arith, count-few n)
 
--- and once it is written, what is left is owed
-pub write : (n at left v : ℕ) (was out : List ℕ) → Writing n at left was out → at < length out → 3 ≤ left → v ≡ largest left all-values → Writing n (at + 1) (left - v) was (set out at v)
-write n at left v was out w h l e =
-    let f = value-some left (λ z. omega (arith, value-none left z)) in
-    let lt : at < at + 1 = omega arith in
-    record {
-      front = rw (take-more-set out at v h, append-assoc) (sym (ap (λ (xs : List ℕ). take at out ++ xs) (pieces-first left v e (λ z. omega arith))) ∙ w .front);
-      back = rw (drop-set-lt, ← drop-drop 1 at out, ← drop-drop 1 at was) (ap (drop 1) (w .back));
-      within = simp length-set (omega arith);
-    }
+-- once the largest value is written, what is left is owed: the law by which each turn follows from the one before
+abbrev pub Writes : ℕ → List ℕ → Type 0
+Writes n was = (at left : ℕ) (out : List ℕ) (v : ℕ) → Writing n at left was out → n / 192 + 3 ≤ length out → 3 ≤ left → Largest left v → Writing n (at + 1) (left - v) was (set out at v)
 
+pub writes : (n : ℕ) (was : List ℕ) → Writes n was
+unfolding Writing
+writes n was at left out v w r l e =
+    let h : at < length out = room n at left was out w r l in
+    let lt : at < at + 1 = omega arith in (
+      rw (take-more-set out at v h, append-assoc) (sym (ap (λ (xs : List ℕ). take at out ++ xs) (pieces-first left v (e .is) (λ z. omega (arith, e .some l)))) ∙ w .0),
+      rw (drop-set-lt, ← drop-drop 1 at out, ← drop-drop 1 at was) (ap (drop 1) (w .1)),
+      simp length-set (omega arith),
+    )
+
+-- and where no value fits any more, all of it is written
 pub done : (n at left : ℕ) (was out : List ℕ) → Writing n at left was out → left < 3 → (out ≡ pieces n n ++ drop at was) × (at ≡ length (pieces n n)) × (at ≤ n / 192 + 3)
-unfolding count
+unfolding count Writing
 done n at left was out w h = (
-  sym (take-append-drop at out) ∙ ap₂ (λ (xs ys : List ℕ). xs ++ ys) all (w .back),
+  sym (take-append-drop at out) ∙ ap₂ (λ (xs ys : List ℕ). xs ++ ys) all (w .1),
   many,
   omega (arith, many, count-few n),
 )
   where
     all : take at out ≡ pieces n n
-    all = sym (append-nil (take at out)) ∙ ap (λ (xs : List ℕ). take at out ++ xs) (sym (pieces-none left h)) ∙ w .front
+    all = sym (append-nil (take at out)) ∙ ap (λ (xs : List ℕ). take at out ++ xs) (sym (pieces-none left h)) ∙ w .0
 
     many : at ≡ length (pieces n n)
-    many = sym (length-take-le at out (w .within)) ∙ ap length all
+    many = sym (length-take-le at out (w .2)) ∙ ap length all

@@ -1,4 +1,4 @@
--- The theorem is proved in proofs/Bars.antt.
+-- The theorem is proved in proofs/Bars.antt. Assumes nothing.
 use Rattle.laws.proofs.Bars.{bars-full}
 use Rattle.laws.proofs.bars_full.Needs as need
 

@@ -1,4 +1,4 @@
--- The theorem is proved in proofs/Pieces.antt.
+-- The theorem is proved in proofs/Pieces.antt. Assumes nothing.
 use Rattle.laws.proofs.Pieces.{comes-to}
 use Rattle.laws.proofs.comes_to.Needs as need
 

@@ -1,4 +1,4 @@
--- The theorem is proved in proofs/Few.antt.
+-- The theorem is proved in proofs/Few.antt. Assumes nothing.
 use Rattle.laws.proofs.Few.{fewest}
 use Rattle.laws.proofs.fewest.Needs as need
 

@@ -1,4 +1,4 @@
--- The theorem is proved in proofs/FromBar.antt.
+-- The theorem is proved in proofs/FromBar.antt. Assumes nothing.
 use Rattle.laws.proofs.FromBar.{from-a-bar}
 use Rattle.laws.proofs.from_a_bar.Needs as need
 

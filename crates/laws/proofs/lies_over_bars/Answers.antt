@@ -1,4 +1,4 @@
--- The theorem is proved in proofs/Laid.antt.
+-- The theorem is proved in proofs/Laid.antt. Assumes nothing.
 use Rattle.laws.proofs.Laid.{lies-over-bars}
 use Rattle.laws.proofs.lies_over_bars.Needs as need
 

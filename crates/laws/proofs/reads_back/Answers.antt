@@ -1,4 +1,4 @@
--- The theorem is proved in proofs/Reading.antt.
+-- The theorem is proved in proofs/Reading.antt. Assumes nothing.
 use Rattle.laws.proofs.Reading.{reads-back}
 use Rattle.laws.proofs.reads_back.Needs as need
 

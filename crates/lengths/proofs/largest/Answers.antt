@@ -1,3 +1,4 @@
+-- The search starts at the first value, and goes on where one is too long. Assumes nothing.
 use Rattle.lengths.proofs.Drawing.{search-start, search-on}
 use Rattle.lengths.proofs.largest.Needs as need
 

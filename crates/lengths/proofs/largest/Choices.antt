@@ -1,3 +1,4 @@
+-- What holds at each value of the search for the largest. Assumes nothing.
 use Rattle.lengths.proofs.Drawing.{Searching}
 use Rattle.lengths.proofs.largest.Given as given
 

@@ -1,16 +1,17 @@
+-- There is room for each value, and in the end all of them are written. Assumes nothing.
 use Prim.Native.Nat.{_<_}
 use native.Mathlib.Omega.{arith}
 use lib.ListN.{length}
-use Rattle.lengths.proofs.Drawing.{start, room, write, done}
+use Rattle.lengths.proofs.Drawing.{start, room, writes, done}
 use Rattle.lengths.proofs.pieces.Needs as need
 use Rattle.lengths.proofs.pieces.Needs.{After-largest-value}
 
 pub loop-left-holds : need.loop-left-holds
-loop-left-holds c = start (c .args .n) (c .args .out .now)
+loop-left-holds c = (start (c .args .n) (c .args .out .now), writes (c .args .n) (c .args .out .now))
 
 -- there is room for the value that was found
 fits : (c : After-largest-value) → c .loop-left .at < length (c .loop-left .out)
-fits c = room (c .args .n) (c .loop-left .at) (c .loop-left .left) (c .args .out .now) (c .loop-left .out) (c .loop-left .inv) (omega arith) (c .loop-left-test .taken)
+fits c = room (c .args .n) (c .loop-left .at) (c .loop-left .left) (c .args .out .now) (c .loop-left .out) (c .loop-left .inv .0) (omega arith) (c .loop-left-test .taken)
 
 pub offset-out-at : need.offset-out-at
 offset-out-at c = let h = fits c in omega arith
@@ -21,11 +22,7 @@ index-out-at c = fits c
 pub add-at : need.add-at
 add-at c = let h = fits c in omega arith
 
-pub loop-left-again : need.loop-left-again
-loop-left-again c =
-    write (c .args .n) (c .loop-left .at) (c .loop-left .left) (c .largest-value .result) (c .args .out .now) (c .loop-left .out) (c .loop-left .inv) (fits c) (c .loop-left-test .taken) (c .largest-value .ensures .is)
-
 pub returns : need.returns
 returns c =
-    let d = done (c .args .n) (c .loop-left .at) (c .loop-left .left) (c .args .out .now) (c .loop-left .out) (c .loop-left .inv) (c .loop-left-test .left) in
+    let d = done (c .args .n) (c .loop-left .at) (c .loop-left .left) (c .args .out .now) (c .loop-left .out) (c .loop-left .inv .0) (c .loop-left-test .left) in
     record { wrote = d .0; many = d .1; few = d .2 }
