@@ -380,3 +380,40 @@ pub fn cut(words: &mut [u32], voice: u32, index: u32) -> Result<(), Refusal>
     remove_event(words, voice as usize, used, at, ticks);
     Ok(())
 }
+
+/// The event at a place of each region becomes another, in a voice that is then so many ticks long.
+fn set_event(words: &mut [u32], voice: usize, at: usize, ticks: u32, row: Row)
+    requires { ⌜ Holds (now words) ⌝ ∗ ⌜ voice < voices-in (now words) ⌝ ∗ ⌜ at < limit-in (now words) ⌝ }
+    ensures { λ _. ⌜ now (words .exit) ≡ with-other (now (words .entry)) voice at ticks (row .place) (row .alteration) (row .length) ⌝ }
+{
+    let regions = regions_of(words);
+    let ticks_at = COUNTS + words[VOICES] as usize + voice;
+    words[regions.places + at] = row.place;
+    words[regions.alterations + at] = row.alteration;
+    words[regions.lengths + at] = row.length;
+    words[ticks_at] = ticks;
+}
+
+/// Changes the event of an index in a voice into another.
+pub fn change(words: &mut [u32], voice: u32, index: u32, event: Event) -> Result<(), Refusal>
+    requires { ⌜ Holds (now words) ⌝ }
+    ensures said { λ r. ⌜ said-done r ≡ answer-at (now (words .entry)) (change-call voice index (event-meant event)) ⌝ }
+    ensures left { λ _. ⌜ now (words .exit) ≡ next-words (now (words .entry)) (change-call voice index (event-meant event)) ⌝ }
+    ensures holds { λ _. ⌜ Holds (now (words .exit)) ⌝ }
+{
+    let Some(row) = find_row(event) else {
+        return Err(Refusal::OutOfRange);
+    };
+    let Some(span) = find_voice(words, voice) else {
+        return Err(Refusal::NoVoice(voice));
+    };
+    let Some(at) = span.find_event(index) else {
+        return Err(Refusal::NoEvent(index));
+    };
+    let old = length_at(words, at);
+    let Some(ticks) = find_ticks(words, voice as usize, old, row.length) else {
+        return Err(Refusal::Full);
+    };
+    set_event(words, voice as usize, at, ticks, row);
+    Ok(())
+}
