@@ -1,20 +1,16 @@
 -- Rows of numbers that are below a bound. Assumes nothing.
 use mathlib.Core.Path.{_≡_, refl}
 use mathlib.Core.Bool.{true}
-use mathlib.Core.List.{List, [], _∷_, _++_, map}
+use mathlib.Core.List.{List, [], _∷_}
 use Prim.Native.Nat.{ℕ, zero, suc, _-_, _<_}
 use lib.Dec.{ltb}
 use lib.ListN.{length, drop, replicate}
 use Rattle.std.proofs.shelf.Tests.{and-parts, and-from, lt-ltb}
 use Rattle.score.specs.Promise.{all-below}
+use Rattle.wire.proofs.Rows.{all-below-++}
 use Rattle.memory.specs.Store.{padded}
 
 module _ (b : ℕ) where
-  pub below-append : (xs ys : List ℕ) → all-below b xs ≡ true → all-below b ys ≡ true → all-below b (xs ++ ys) ≡ true
-  unfolding all-below
-  below-append [] ys h k = k
-  below-append (x ∷ xs) ys h k = let p = and-parts (ltb x b) _ h in and-from _ _ (p .0) (below-append xs ys (p .1) k)
-
   pub below-drop : (n : ℕ) (xs : List ℕ) → all-below b xs ≡ true → all-below b (drop n xs) ≡ true
   unfolding all-below
   below-drop zero xs h = h
@@ -28,4 +24,4 @@ module _ (b : ℕ) where
 
   pub below-padded : (n : ℕ) (xs : List ℕ) → 0 < b → all-below b xs ≡ true → all-below b (padded n xs) ≡ true
   unfolding padded
-  below-padded n xs z h = below-append xs _ h (below-zeros (n - length xs) z)
+  below-padded n xs z h = all-below-++ b xs _ h (below-zeros (n - length xs) z)

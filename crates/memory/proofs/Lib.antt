@@ -10,3 +10,5 @@ pub mod Stages
 pub mod Moved
 pub mod Edited
 pub mod Left
+pub mod Fields
+pub mod Enough

@@ -7,11 +7,12 @@ use native.Mathlib.Omega.{arith}
 use lib.Dec.{eqb, leb}
 use lib.ListN.{length, set, take, drop}
 use Rattle.std.proofs.shelf.Lists.{length-set}
-use Rattle.std.proofs.shelf.Tests.{and-parts, and-from, eqb-true, eqb-false, ne-eqb, leb-true}
+use Rattle.std.proofs.shelf.Tests.{and-parts, and-from, eqb-true, leb-true}
 use Rattle.score.specs.Music.{pick, Event, total, fine, all-fine}
 use Rattle.score.specs.Calls.{Call, put, cut, change, show, heard-in, how-long, Answer, Limits, Layout, Score, voice, all-events, none-too-long, empty-voices, good-fields, good-call, fits, changed, turned-by, turned, after, answer, answers, ran}
 use Rattle.score.specs.Promise.{Memory, Engraver, told-by, left-by, Right, Refusal-keeps}
-use Rattle.score.proofs.Picks.{pick-false, pick-both}
+use Rattle.score.proofs.Picks.{pick-both}
+use Rattle.laws.proofs.Turning.{not-turned, after-turned}
 use Rattle.memory.specs.Store.{stored, limits-by, layout-of, score-of, all-fines, Kept-in, Kept}
 use Rattle.memory.specs.Words.{answer-by, words-by, engraver-by}
 use Rattle.memory.proofs.Scores.{fine-append, fine-parts, fines-voice}
@@ -58,18 +59,9 @@ length-changed s (show v b n) = refl
 length-changed s (heard-in a b) = refl
 length-changed s (how-long v) = refl
 
-zero-from : (a z f : Bool) (t : ℕ) → eqb t 0 ≡ z → pick a (pick z (pick f 0 6) t) 2 ≡ 0 → (a ≡ true) × (t ≡ 0) × (f ≡ true)
-zero-from true true true t e h = (refl, eqb-true t 0 e, refl)
-zero-from true true false t e h = absurd (omega arith)
-zero-from true false f t e h = absurd (eqb-false t 0 e h)
-zero-from false z f t e h = absurd (omega arith)
-
-pub turned-zero : (l : Limits) (y : Layout) (s : Score) (c : Call) → turned l y s c ≡ 0 → (good-call l y c ≡ true) × (turned-by s c ≡ 0) × (fits l (changed s c) ≡ true)
-turned-zero l y s c h = zero-from (good-call l y c) (eqb (turned-by s c) 0) (fits l (changed s c)) (turned-by s c) refl h
-
 pub kept-changed : (l : Limits) (y : Layout) (s : Score) (c : Call) → Kept l s → turned l y s c ≡ 0 → Kept l (changed s c)
 kept-changed l y s c k h =
-    let z = turned-zero l y s c h in
+    let z = not-turned l y s c h in
     let f = and-parts (leb (all-events (changed s c)) (l .events)) (none-too-long (changed s c)) (z .2) in
     record {
       so-many = length-changed s c ∙ k .so-many;
@@ -173,5 +165,4 @@ module _ (can : ℕ → Bool) (signed : Bool) where
       let e : m .words ≡ stored l y s = left-is l y (E .opened l y) (empty-voices (l .voices)) cs (kept-empty l) refl in
       let k : Kept l s = kept-ran (kin l) y (empty-voices (l .voices)) cs (kept-empty l) in
       let t : 0 < turned (kin l) y s c = subst (λ n. 0 < turned n y (ran n y (empty-voices (l .voices)) cs) c) (sym (kin-is l p q)) h in
-      let stays : after (kin l) y s c ≡ s = pick-false _ _ _ (ne-eqb (turned (kin l) y s c) 0 (λ z. omega (arith, t, z))) in
-      next-is l y m s c k e ∙ (ap (stored l y) stays ∙ sym e)
+      next-is l y m s c k e ∙ (ap (stored l y) (after-turned (kin l) y s c t) ∙ sym e)

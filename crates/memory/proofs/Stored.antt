@@ -11,11 +11,12 @@ use Rattle.std.proofs.shelf.Tests.{and-parts, and-from, lt-ltb, ltb-true}
 use Rattle.score.specs.Music.{Event, lasts, total, fine, all-fine}
 use Rattle.score.specs.Calls.{Limits, Layout, Score, all-events, none-too-long, ticks-end}
 use Rattle.score.specs.Promise.{field-end, all-below}
+use Rattle.wire.proofs.Rows.{all-below-++}
 use Rattle.memory.specs.Store.{words-asked, stands, alters, flat, counts, ticks, padded, laid, stored, Kept}
 use Rattle.memory.specs.Owed.{Words-fit, Words-counted}
 use Rattle.memory.proofs.Scores.{fine-fields, fine-flat, length-flat}
 use Rattle.memory.proofs.Back.{length-counts, length-ticks, length-region}
-use Rattle.memory.proofs.Below.{below-append, below-padded}
+use Rattle.memory.proofs.Below.{below-padded}
 
 pub length-stored : (l : Limits) (y : Layout) (s : Score) → Kept l s → length (stored l y s) ≡ words-asked (l .voices) (l .events)
 unfolding stored
@@ -59,11 +60,11 @@ fine-words e h = let f = fine-fields e h in (omega (arith, f .0), omega (arith, 
 
 below-laid : (n : ℕ) (s : Score) (rest : List ℕ) → all-events s < field-end → none-too-long s ≡ true → all-fine (flat s) ≡ true → all-below field-end rest ≡ true → all-below field-end (laid n s rest) ≡ true
 below-laid n s rest small short f h =
-    below-append field-end (counts s) _ (below-counts field-end s small)
-    (below-append field-end (ticks s) _ (below-ticks field-end s (omega arith) short)
-    (below-append field-end _ _ (below-region n s stands (λ e h. fine-words e h .0) f)
-    (below-append field-end _ _ (below-region n s alters (λ e h. fine-words e h .1) f)
-    (below-append field-end _ rest (below-region n s lasts (λ e h. fine-words e h .2) f) h))))
+    all-below-++ field-end (counts s) _ (below-counts field-end s small)
+    (all-below-++ field-end (ticks s) _ (below-ticks field-end s (omega arith) short)
+    (all-below-++ field-end _ _ (below-region n s stands (λ e h. fine-words e h .0) f)
+    (all-below-++ field-end _ _ (below-region n s alters (λ e h. fine-words e h .1) f)
+    (all-below-++ field-end _ rest (below-region n s lasts (λ e h. fine-words e h .2) f) h))))
 
 pub words-fit : Words-fit
 unfolding stored all-below

@@ -3,9 +3,11 @@ use mathlib.Core.Path.{_≡_}
 use mathlib.Core.Bool.{Bool, true}
 use Prim.Native.Nat.{ℕ, _+_, _*_, _≤_}
 use lib.ListN.{length}
-use Rattle.score.specs.Calls.{Call, Limits, Layout, Score}
-use Rattle.score.specs.Promise.{Good-layout, Good-limits, field-end, all-below, Right, Refusal-keeps, Enough-memory}
-use Rattle.memory.specs.Store.{words-asked, stored, score-of, Kept}
+use Rattle.score.specs.Calls.{Call, Limits, Layout, Score, answer}
+use Rattle.score.specs.Promise.{Good-layout, Good-limits, readable, field-end, all-below, Right, Refusal-keeps, Enough-memory}
+use Rattle.wire.specs.Bytes.{answer-bytes}
+use Rattle.wire.specs.Fits.{answer-fits}
+use Rattle.memory.specs.Store.{words-asked, bytes-asked, stored, score-of, Kept}
 use Rattle.memory.specs.Words.{engraver-by}
 
 -- a score is read back from its words
@@ -31,3 +33,10 @@ Engraver-keeps = (can : ℕ → Bool) (signed : Bool) → Refusal-keeps can sign
 
 abbrev pub Engraver-enough : Type 0
 Engraver-enough = (can : ℕ → Bool) (signed : Bool) → Enough-memory (engraver-by can signed)
+
+-- every answer that a score can give to a call that can be read fits its fields, and the bytes that are asked for
+abbrev pub Answers-fit : Type 0
+Answers-fit = (l : Limits) (y : Layout) (s : Score) (c : Call) → Good-layout y → Good-limits l → Kept l s → readable c ≡ true → answer-fits (answer l y s c) ≡ true
+
+abbrev pub Answers-short : Type 0
+Answers-short = (l : Limits) (y : Layout) (s : Score) (c : Call) → Good-layout y → Kept l s → length (answer-bytes (answer l y s c)) ≤ bytes-asked (l .events)
