@@ -1,6 +1,8 @@
 -- A row of texts, written one after the other. Assumes nothing.
-use mathlib.Core.Path.{_≡_, refl, sym, _∙_, ap}
-use mathlib.Core.List.{List, [], _∷_, _++_, append-assoc}
+use mathlib.Core.Path.{_≡_, refl, sym, _∙_, ap, subst}
+use mathlib.Core.List.{List, [], _∷_, _++_, map, append-assoc}
+use Rattle.std.specs.declared.result.Result.{Result}
+use Rattle.std.specs.Vec.{made}
 use Prim.Native.Nat.{ℕ, _+_, _<_, _≤_}
 use lib.ListN.{length, getD, drop}
 use Rattle.std.proofs.shelf.Lists.{at-drop-more, at-drop-all, append-nil}
@@ -27,3 +29,14 @@ pub row-over :
     → length xs ≤ i → out ++ spelled-row f lead between (drop i xs) ≡ whole → out ≡ whole
 unfolding spelled-row
 row-over {A = A} f lead between out whole xs i h e = sym (append-nil out) ∙ sym (at-drop-all (λ (ys : List A). out ++ spelled-row f lead between ys) xs i h) ∙ e
+
+-- a row of what the code has is the row of what it means
+pub row-meant :
+    {A B : Type 0} (f : B → List ℕ) (g : A → B) (lead between : List ℕ) (xs : List A)
+    → spelled-row (λ x. f (g x)) lead between xs ≡ spelled-row f lead between (map g xs)
+unfolding spelled-row
+row-meant f g lead between [] = refl
+row-meant f g lead between (x ∷ xs) = ap (λ (r : List ℕ). lead ++ (f (g x) ++ r)) (row-meant f g between between xs)
+
+pub retold : {A E : Type 0} (r : Result A E) (now was old new : List ℕ) → old ≡ new → made r (λ _. now ≡ was ++ old) → made r (λ _. now ≡ was ++ new)
+retold r now was old new e h = subst (λ (x : List ℕ). made r (λ _. now ≡ was ++ x)) e h

@@ -6,7 +6,10 @@ use lib.Chars.{codes}
 use lib.Dec.{eqb}
 use Rattle.std.specs.Written.{decimal}
 use Rattle.score.specs.Music.{pick, Event, note, silence, Heard}
+use Rattle.std.specs.declared.option.Option.{Option}
+use Rattle.std.specs.declared.option.Option.the-variants.{None, Some}
 use Rattle.score.specs.Print.{Symbol, bar, head, rest}
+use Rattle.score.specs.Calls.{Answer, done, refused, symbols, sounds, number}
 
 -- steps by their letters, from c on
 abbrev pub letter : ℕ → List ℕ
@@ -36,3 +39,26 @@ spelled-sound x =
 unfoldable pub spelled-row : {A : Type 0} → (A → List ℕ) → List ℕ → List ℕ → List A → List ℕ
 spelled-row f lead between [] = []
 spelled-row f lead between (x ∷ xs) = lead ++ (f x ++ spelled-row f between between xs)
+
+-- a note as a reader hears it, as `start length tone`
+abbrev pub spelled-heard : Heard → List ℕ
+spelled-heard h = decimal (h .start) ++ (codes " " ++ (decimal (h .long) ++ (codes " " ++ decimal (h .high))))
+
+abbrev pub spelled-symbols : List Symbol → List ℕ
+spelled-symbols xs = spelled-row spelled-symbol [] (codes " ") xs
+
+abbrev pub spelled-sounds : List (ℕ × Heard) → List ℕ
+spelled-sounds xs = spelled-row spelled-sound [] (codes ", ") xs
+
+-- an answer
+abbrev pub spelled-answer : Answer → List ℕ
+spelled-answer done = codes "done"
+spelled-answer (refused n p) = codes "refused " ++ (decimal n ++ (codes " at " ++ decimal p))
+spelled-answer (symbols xs) = spelled-symbols xs
+spelled-answer (sounds xs) = spelled-sounds xs
+spelled-answer (number n) = decimal n
+
+-- what bytes that are no answer are spelled as, which no session gives
+abbrev pub spelled-bytes : Option Answer → List ℕ
+spelled-bytes (Some a) = spelled-answer a
+spelled-bytes None = codes "no answer"

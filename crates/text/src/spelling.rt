@@ -1,12 +1,12 @@
 //! How events, symbols, sounds and answers are spelled.
 ghost use Prim.Native.Nat.{ℕ};
-ghost use mathlib.Core.List.{List, [], _++_};
+ghost use mathlib.Core.List.{List, [], _++_, map};
 ghost use mathlib.Core.Path.{_≡_};
 ghost use denote.Ref.{now};
 ghost use Rattle.std.specs.Of.String.{string-bytes};
 ghost use Rattle.std.specs.Vec.{made};
 ghost use Rattle.score.specs.Meaning.{symbol-meant, sound-meant};
-ghost use Rattle.text.specs.Spelling.{letter, mark, spelled-symbol, spelled-sound, spelled-row};
+ghost use Rattle.text.specs.Spelling.{letter, mark, spelled-symbol, spelled-sound, spelled-row, spelled-symbols, spelled-sounds};
 use score::Sound;
 use score::Symbol;
 use std::fmt;
@@ -97,4 +97,18 @@ pub fn spell_row<T: Spell>(row: &[T], between: &str, out: &mut String) -> fmt::R
         lead = between;
     }
     Ok(())
+}
+
+/// Writes symbols with a space between each two.
+pub fn spell_symbols(symbols: &[Symbol], out: &mut String) -> fmt::Result
+    ensures { λ r. ⌜ made r (λ _. string-bytes (now (out .exit)) ≡ string-bytes (now (out .entry)) ++ spelled-symbols (map symbol-meant (now (symbols .entry)))) ⌝ }
+{
+    spell_row(symbols, " ", out)
+}
+
+/// Writes sounds with a comma and a space between each two.
+pub fn spell_sounds(sounds: &[Sound], out: &mut String) -> fmt::Result
+    ensures { λ r. ⌜ made r (λ _. string-bytes (now (out .exit)) ≡ string-bytes (now (out .entry)) ++ spelled-sounds (map sound-meant (now (sounds .entry)))) ⌝ }
+{
+    spell_row(sounds, ", ", out)
 }
