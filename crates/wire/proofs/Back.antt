@@ -9,7 +9,7 @@ use Rattle.std.specs.Options.{mapped}
 use Rattle.std.specs.declared.option.Option.{Option}
 use Rattle.std.specs.declared.option.Option.the-variants.{Some}
 use Rattle.score.specs.Music.{Heard}
-use Rattle.score.specs.Print.{Symbol, bar, head, rest}
+use Rattle.score.specs.Print.{bar, head, rest}
 use Rattle.score.specs.Calls.{Answer, done, refused, symbols, sounds, number}
 use Rattle.wire.specs.Bytes.{symbol-bytes, sound-bytes, symbols-bytes, sounds-bytes, each, answer-bytes}
 use Rattle.wire.specs.Reading.{of-two, symbol-of, sound-of, before, row-of, answer-of}

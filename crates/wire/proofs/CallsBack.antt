@@ -1,17 +1,16 @@
 -- A call comes back from its bytes, and no other row of bytes is read as that call. Assumes nothing.
 use mathlib.Core.Path.{_≡_, refl, sym, ap, _∙_}
-use mathlib.Core.Bool.{Bool, true, false, _&&_}
+use mathlib.Core.Bool.{true}
 use mathlib.Core.List.{List, [], _∷_, _++_}
-use Prim.Native.Nat.{ℕ, suc, _+_, _<_}
+use Prim.Native.Nat.{ℕ, _+_, _<_}
 use native.Mathlib.Omega.{arith}
 use Rattle.std.proofs.shelf.Tests.{and-parts}
-use Rattle.std.specs.declared.result.Result.{Result}
-use Rattle.std.specs.declared.result.Result.the-variants.{Ok, Err}
+use Rattle.std.specs.declared.result.Result.the-variants.{Ok}
 use Rattle.score.specs.Music.{Event, note, silence}
-use Rattle.score.specs.Calls.{Call, put, cut, change, show, heard-in, how-long, Answer}
+use Rattle.score.specs.Calls.{Call, put, cut, change, show, heard-in, how-long}
 use Rattle.score.specs.Promise.{all-below, field, readable-event, readable}
-use Rattle.wire.specs.Bytes.{two, four, event-bytes, call-bytes}
-use Rattle.wire.specs.ReadingCalls.{then, four-at, field-at, one-field, two-fields, three-fields, fields-and-event, call-by, read-call}
+use Rattle.wire.specs.Bytes.{four, event-bytes, call-bytes}
+use Rattle.wire.specs.ReadingCalls.{read-call}
 use Rattle.wire.specs.Faithful.{with-any, Calls-back}
 use Rattle.wire.proofs.Numbers.{of-two-two, of-four-four}
 use Rattle.wire.proofs.Rows.{all-below-none, all-below-more, all-below-++, four-below, five-below}

@@ -7,7 +7,7 @@ use native.Mathlib.Omega.{arith}
 use lib.Dec.{ltb}
 use lib.ListN.{length}
 use Rattle.std.proofs.shelf.Tests.{and-parts, ltb-true}
-use Rattle.score.specs.Music.{length-end, Heard}
+use Rattle.score.specs.Music.{Heard}
 use Rattle.score.specs.Print.{Symbol, bar, head, rest}
 use Rattle.score.specs.Calls.{Answer, done, refused, symbols, sounds, number}
 use Rattle.score.specs.Promise.{all-below, field}

@@ -1,21 +1,21 @@
 -- A row of bytes that is read as a call is that call's row, but for the two bytes that are not looked at. Assumes nothing.
 use mathlib.Core.Path.{_≡_, refl, sym, ap, _∙_, subst}
-use mathlib.Core.Bool.{Bool, true, false, _&&_}
+use mathlib.Core.Bool.{true, _&&_}
 use mathlib.Core.List.{List, [], _∷_, _++_}
-use Prim.Native.Nat.{ℕ, suc, _+_, _*_, _/_, _%_, _<_}
+use Prim.Native.Nat.{ℕ, _+_, _*_, _/_, _%_, _<_}
 use native.Mathlib.Omega.{arith}
 use lib.Dec.{ltb, eqb}
-use Rattle.std.proofs.shelf.Tests.{and-parts, and-from, ltb-true, lt-ltb, eqb-true, cases-bool}
+use Rattle.std.proofs.shelf.Tests.{and-from, lt-ltb, eqb-true}
 use Rattle.std.proofs.shelf.Lists.{append-nil}
 use Rattle.std.specs.declared.result.Result.{Result}
-use Rattle.std.specs.declared.result.Result.the-variants.{Ok, Err}
+use Rattle.std.specs.declared.result.Result.the-variants.{Ok}
 use Rattle.score.specs.Music.{pick, length-end, Event, note, silence}
 use Rattle.score.specs.Calls.{Call, put, cut, change, show, heard-in, how-long, Answer}
-use Rattle.score.specs.Promise.{all-below, field, field-end, readable-event, readable}
+use Rattle.score.specs.Promise.{all-below, field, readable-event, readable}
 use Rattle.score.proofs.Picks.{pick-both}
-use Rattle.wire.specs.Bytes.{two, four, event-bytes, call-bytes}
+use Rattle.wire.specs.Bytes.{two, four, call-bytes}
 use Rattle.wire.specs.Reading.{of-two, of-four}
-use Rattle.wire.specs.ReadingCalls.{unfit, then, four-at, field-at, note-at, silence-at, event-by, event-at, end-at, one-field, two-fields, three-fields, fields-and-event, call-by, read-call}
+use Rattle.wire.specs.ReadingCalls.{then, four-at, field-at, note-at, silence-at, event-at, end-at, one-field, two-fields, three-fields, fields-and-event}
 use Rattle.wire.specs.Faithful.{with-any, One-row}
 use Rattle.wire.proofs.Rows.{below-first}
 use Rattle.wire.proofs.Results.{never, then-read}
@@ -213,8 +213,10 @@ three-read bs x h p =
     subst (λ z. (bs ≡ four (z .0) ++ (four (z .1) ++ four (z .2))) × (field (z .0) ≡ true) × (field (z .1) ≡ true) × (field (z .2) ≡ true)) (e .1)
     (t .row ∙ ap (λ r. four (t .v) ++ (four (t .i) ++ r)) (f .row ∙ ap (λ r. four (s .0 .0) ++ r) (e .0)), t .v-fits, t .i-fits, f .fits)
 
-nothing-behind : (bs front rest : List ℕ) → bs ≡ front ++ rest → rest ≡ [] → bs ≡ front
-nothing-behind bs front rest p e = p ∙ ap (λ r. front ++ r) e ∙ append-nil front
+-- two numbers, what follows them, and nothing more
+nothing-behind :
+    (bs rest front left : List ℕ) (v i : ℕ) → bs ≡ four v ++ (four i ++ rest) → rest ≡ front ++ left → left ≡ [] → bs ≡ four v ++ (four i ++ front)
+nothing-behind bs rest front left v i p q e = p ∙ ap (λ r. four v ++ (four i ++ r)) (q ∙ ap (λ l. front ++ l) e ∙ append-nil front)
 
 record Placed-event (bs : List ℕ) (z : ℕ × ℕ × Event) : Type 0 where
   x : ℕ
@@ -230,12 +232,11 @@ placed-event-read bs z h p =
     let s = then-read (event-at 9 (t .rest)) (λ e. end-at 14 (e .1) (t .v, t .i, e .0)) z (t .then-so) in
     let f = event-read 9 (t .rest) (s .0) (t .below) (s .1) in
     let e = end-read 14 (s .0 .1) (t .v, t .i, s .0 .0) z (s .2) in
-    let tail : t .rest ≡ event-with (f .x) (f .y) (s .0 .0) = nothing-behind _ _ _ (f .row) (e .0) in
     subst (Placed-event bs) (e .1)
     record {
       x = f .x;
       y = f .y;
-      row = t .row ∙ ap (λ r. four (t .v) ++ (four (t .i) ++ r)) tail;
+      row = nothing-behind bs (t .rest) (event-with (f .x) (f .y) (s .0 .0)) (s .0 .1) (t .v) (t .i) (t .row) (f .row) (e .0);
       v-fits = t .v-fits;
       i-fits = t .i-fits;
       e-fits = f .fits;

@@ -2,7 +2,7 @@
 -- with does. Assumes nothing.
 use mathlib.Core.Path.{_≡_, refl, sym, ap, _∙_, subst}
 use mathlib.Core.Logic.{_⊎_, inl, inr}
-use mathlib.Core.Bool.{Bool, true, false}
+use mathlib.Core.Bool.{true, false}
 use mathlib.Core.List.{List, [], _∷_, _++_}
 use Prim.Native.Nat.{ℕ, zero, suc, _+_, _<_}
 use native.Mathlib.Nat.{zero-add}
@@ -13,14 +13,14 @@ use Rattle.std.proofs.shelf.Lists.{take-all}
 use Rattle.std.proofs.shelf.Tests.{eqb-true, cases-bool}
 use Rattle.std.specs.declared.result.Result.{Result}
 use Rattle.std.specs.declared.result.Result.the-variants.{Ok, Err}
-use Rattle.score.specs.Music.{pick, Event, note, silence}
-use Rattle.score.specs.Calls.{Call, put, cut, change, show, heard-in, how-long, Answer, refused}
+use Rattle.score.specs.Music.{Event, note, silence}
+use Rattle.score.specs.Calls.{put, cut, change, show, heard-in, how-long, Answer, refused}
 use Rattle.score.specs.Promise.{all-below}
-use Rattle.score.proofs.Picks.{pick-true, pick-false, pick-both}
+use Rattle.score.proofs.Picks.{pick-false}
 use Rattle.wire.specs.Reading.{of-two, of-four}
-use Rattle.wire.specs.ReadingCalls.{unfit, then, four-at, field-at, note-at, silence-at, event-by, event-at, end-at, one-field, two-fields, three-fields, fields-and-event, call-by, read-call}
-use Rattle.wire.specs.Faithful.{Begins-a-call, Place-right}
-use Rattle.wire.proofs.Rows.{all-below-none, all-below-more, below-first}
+use Rattle.wire.specs.ReadingCalls.{unfit, then, four-at, event-by, event-at, end-at, one-field, two-fields, three-fields, fields-and-event, call-by, read-call}
+use Rattle.wire.specs.Faithful.{Place-right}
+use Rattle.wire.proofs.Rows.{all-below-none, all-below-more}
 use Rattle.wire.proofs.Results.{never, then-read, then-refused}
 
 -- some bytes that begin so are read

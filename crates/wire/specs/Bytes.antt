@@ -1,6 +1,5 @@
 -- Calls, symbols and answers as rows of bytes, the low byte of a number first. Assumes nothing: these are definitions.
 -- No field is cut: what is too large for its field would make a byte that is none, of 256 or more.
-use mathlib.Core.Bool.{Bool, true, false}
 use mathlib.Core.List.{List, [], _∷_, _++_}
 use Prim.Native.Nat.{ℕ, _/_, _%_}
 use lib.ListN.{length, drop}

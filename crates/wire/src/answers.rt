@@ -15,7 +15,7 @@ use score::Sound;
 use score::Symbol;
 
 /// What is said first in an answer.
-#[derive(Clone, Copy, PartialEq, Eq, Debug)]
+#[derive(Clone, Copy)]
 pub enum Said {
     Done,
     Refused { number: u8, place: u32 },
