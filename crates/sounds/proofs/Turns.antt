@@ -9,7 +9,7 @@ use lib.Dec.{eqb}
 use Rattle.std.proofs.shelf.Tests.{cases-eq, cases-lt, eq-eqb, ne-eqb}
 use Rattle.score.specs.Music.{pick, Heard}
 use Rattle.score.proofs.Picks.{pick-true, pick-false, pick-both}
-use Rattle.sounds.specs.Spans.{starts, mixed, grain, bit, begun}
+use Rattle.sounds.specs.Spans.{starts, mixed, grain, bit, begun, Begin}
 use Rattle.sounds.proofs.Bits.{bit-zero, flip-same, flip-other, Lowest}
 use Rattle.sounds.proofs.Mixed.{From, mixed-next, mixed-none}
 
@@ -47,10 +47,6 @@ begun-here u t m ms e = pick-true (eqb (bit m u) 1) _ _ (eq-eqb _ _ e)
 begun-alike : (u t m w : ℕ) (ms : List ℕ) → bit m u ≡ bit w u → begun u t (m ∷ ms) ≡ begun u t (w ∷ ms)
 unfolding begun
 begun-alike u t m w ms e = ap (λ (n : ℕ). pick (eqb n 1) (t ∷ begun u (t + grain) ms) (begun u (t + grain) ms)) e
-
--- rows of notes that begin as the slots from tick t on say
-pub record Begin (f : ℕ → Notes) (t : ℕ) (ms : List ℕ) : Type 0 where
-  pub told : (u : ℕ) → starts (f u) ≡ begun u t ms
 
 -- the first note of a row, and what comes after it
 pub record First (xs : Notes) (t : ℕ) (ts : List ℕ) : Type 0 where

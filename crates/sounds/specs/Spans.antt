@@ -1,11 +1,16 @@
 -- What is heard of all voices in a span: rows of notes, and slots that say which voices begin a note there. Assumes nothing: these are definitions.
+use mathlib.Core.Path.{_≡_}
+use mathlib.Core.Bool.{true}
 use mathlib.Core.List.{List, [], _∷_, map}
-use Prim.Native.Nat.{ℕ, zero, suc, _+_, _-_, _*_, _/_, _%_, _^_, _≤_}
+use Prim.Native.Nat.{ℕ, zero, suc, _+_, _-_, _*_, _/_, _%_, _^_, _≤_, _<_}
 use lib.Bits.{bitOr}
-use lib.Dec.{eqb, ltb, leb}
+use lib.Dec.{eqb, ltb}
 use lib.ListN.{length, getD, set, take, drop}
-use Rattle.score.specs.Music.{pick, places, Event, Heard, heard, total}
-use Rattle.score.specs.Calls.{merged}
+use Rattle.std.specs.shelf.Lists.{sum}
+use Rattle.score.specs.Music.{pick, places, Event, tone, Heard, heard, total}
+use Rattle.score.specs.Calls.{Score, voice, none-too-long, merged}
+use Rattle.laws.specs.Rows.{voice-of}
+use Rattle.memory.specs.Store.{dealt, all-fines}
 
 -- ---- rows of notes
 
@@ -25,6 +30,10 @@ starts xs = map (λ x. x .1 .start) xs
 unfoldable pub mixed : (ℕ → List (ℕ × Heard)) → ℕ → ℕ → List (ℕ × Heard)
 mixed f zero w = []
 mixed f (suc n) w = merged (length (f w) + length (mixed f n (suc w))) (f w) (mixed f n (suc w))
+
+-- the note of an index in three rows, which begins at tick t
+abbrev pub sound-at : List ℕ → List ℕ → List ℕ → ℕ → ℕ → Heard
+sound-at ps xs ds i t = record { start = t; long = getD ds i 0; high = tone (getD ps i 0) (getD xs i 0) }
 
 -- ---- a voice in two rows of words, places and lengths
 
@@ -62,3 +71,33 @@ begun u t (m ∷ ms) = pick (eqb (bit m u) 1) (t ∷ begun u (t + grain) ms) (be
 unfoldable pub marks : ℕ → ℕ → List ℕ → List ℕ → List ℕ
 marks u first [] ms = ms
 marks u first (t ∷ ts) ms = let k : ℕ = t / grain - first in marks u first ts (set ms k (bitOr (getD ms k 0) (2 ^ u)))
+
+-- ---- a score in four rows of words: how many events each voice has, and the events of all voices in three rows
+
+abbrev pub score-in : List ℕ → List ℕ → List ℕ → List ℕ → Score
+score-in ns ps xs ds = dealt ns (voice-of ps xs ds)
+
+pub record Laid (ns ps xs ds : List ℕ) : Type 0 where
+  pub few : length ns ≤ 64
+  pub alterations-too : length xs ≡ length ps
+  pub lengths-too : length ds ≡ length ps
+  pub fitting : sum ns ≤ length ps
+  pub short : none-too-long (score-in ns ps xs ds) ≡ true
+  pub fines : all-fines (score-in ns ps xs ds) ≡ true
+
+-- what is left of voice u up to before tick e, where the cursors say which of all events comes next in each voice
+abbrev pub left : List ℕ → List ℕ → List ℕ → List ℕ → ℕ → List ℕ → ℕ → List (ℕ × Heard)
+left ns ps xs ds e cursors u = until u e (from-event (voice (score-in ns ps xs ds) u) (getD cursors u 0 - sum (take u ns)))
+
+-- rows of notes that begin as the slots from tick t on say
+pub record Begin (f : ℕ → List (ℕ × Heard)) (t : ℕ) (ms : List ℕ) : Type 0 where
+  pub told : (u : ℕ) → starts (f u) ≡ begun u t ms
+
+-- cursors, none of which is before its voice, and slots that tell what is left
+pub record Ready (ns ps xs ds : List ℕ) (e : ℕ) (cursors : List ℕ) (t : ℕ) (ms : List ℕ) : Type 0 where
+  pub begin : Begin (left ns ps xs ds e cursors) t ms
+  pub reached : (u : ℕ) → u < length ns → sum (take u ns) ≤ getD cursors u 0
+
+-- and all of it
+abbrev pub all-left : List ℕ → List ℕ → List ℕ → List ℕ → ℕ → List ℕ → List (ℕ × Heard)
+all-left ns ps xs ds e cursors = mixed (left ns ps xs ds e cursors) (length ns) 0

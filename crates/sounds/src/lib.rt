@@ -1,15 +1,45 @@
 //! What is heard of a score: of one voice, and of all voices together in a span of time.
+ghost use mathlib.Core.List.{_++_};
 ghost use mathlib.Core.Path.{_≡_};
 ghost use Prim.Native.Nat.{_+_, _*_, _^_, _<_, _≤_};
-ghost use lib.ListN.{length, take, drop};
+ghost use lib.ListN.{length, getD, take, drop};
 ghost use Rattle.std.specs.shelf.Lists.{sum};
-ghost use Rattle.sounds.specs.Spans.{passed, note-ticks, silences, grain, marks};
+ghost use Rattle.score.specs.Music.{places, alterations, length-end};
+ghost use Rattle.wire.specs.Bytes.{sound-bytes, sounds-bytes};
+ghost use Rattle.sounds.specs.Spans.{sound-at, passed, note-ticks, silences, grain, marks, Laid, Ready, all-left};
+use keys::tone;
+use score::Sound;
+use wire::write_sound;
 
 /// The place of a silence, which no note has.
 const SILENCE: u32 = 70;
 
 /// Every length is a multiple of so many ticks, so that notes begin only there.
 const GRAIN: usize = 3;
+
+/// A score as it lies in lent words: how many events each voice has, and the events of all voices, one voice after the other, in three rows.
+#[derive(Clone, Copy)]
+struct Rows<'a> {
+    counts: &'a [u32],
+    places: &'a [u32],
+    alterations: &'a [u32],
+    lengths: &'a [u32],
+}
+
+/// Writes the note of an index in the rows as it is heard, over the first eight bytes.
+fn write_note(rows: Rows, index: usize, voice: u8, start: u32, out: &mut [u8])
+    requires { ⌜ index < length (now (rows .places)) ⌝ ∗ ⌜ index < length (now (rows .alterations)) ⌝ ∗ ⌜ index < length (now (rows .lengths)) ⌝ ∗ ⌜ 8 ≤ length (now out) ⌝ }
+    requires { ⌜ getD (now (rows .places)) index 0 < places ⌝ ∗ ⌜ getD (now (rows .alterations)) index 0 < alterations ⌝ ∗ ⌜ getD (now (rows .lengths)) index 0 < length-end ⌝ }
+    ensures { λ _. ⌜ now (out .exit) ≡ sound-bytes (voice, sound-at (now (rows .entry .places)) (now (rows .entry .alterations)) (now (rows .entry .lengths)) index start) ++ drop 8 (now (out .entry)) ⌝ }
+{
+    let sound = Sound {
+        voice,
+        start,
+        length: rows.lengths[index] as u16,
+        tone: tone(rows.places[index], rows.alterations[index]) as u8,
+    };
+    write_sound(out, sound);
+}
 
 /// The first event of a voice that begins at a tick or later, and when it begins.
 fn reach(lengths: &[u32], from: usize) -> (usize, usize)
@@ -49,7 +79,6 @@ fn mark(places: &[u32], lengths: &[u32], voice: u32, start: usize, first: usize,
 
 /// The index of the first note from an event on, or past the end.
 fn next_note(places: &[u32], from: usize) -> usize
-    requires { ⌜ from ≤ length (now places) ⌝ }
     ensures { λ r. ⌜ r ≡ from + silences (drop from (now (places .entry))) ⌝ }
 {
     let mut at = from;
@@ -57,4 +86,29 @@ fn next_note(places: &[u32], from: usize) -> usize
         at += 1;
     }
     at
+}
+
+/// Writes what is left of all voices as the slots tell it: slot by slot, and in each the voices in order. Returns how many notes that is.
+fn write_slots(rows: Rows, slots: &[u64], first: usize, cursors: &mut [usize], out: &mut [u8]) -> usize
+    requires laid { ⌜ Laid (now (rows .counts)) (now (rows .places)) (now (rows .alterations)) (now (rows .lengths)) ⌝ }
+    requires ready { ⌜ Ready (now (rows .counts)) (now (rows .places)) (now (rows .alterations)) (now (rows .lengths)) (grain * (first + length (now slots))) (now cursors) (grain * first) (now slots) ⌝ }
+    requires small { ⌜ length (now (rows .counts)) ≤ length (now cursors) ⌝ ∗ ⌜ first + length (now slots) < 2 ^ 30 ⌝ }
+    requires room { ⌜ 8 * length (all-left (now (rows .counts)) (now (rows .places)) (now (rows .alterations)) (now (rows .lengths)) (grain * (first + length (now slots))) (now cursors)) ≤ length (now out) ⌝ }
+    ensures wrote { λ r. ⌜ now (out .exit) ≡ sounds-bytes (all-left (now (rows .entry .counts)) (now (rows .entry .places)) (now (rows .entry .alterations)) (now (rows .entry .lengths)) (grain * (first + length (now (slots .entry)))) (now (cursors .entry))) ++ drop (8 * r) (now (out .entry)) ⌝ }
+    ensures many { λ r. ⌜ r ≡ length (all-left (now (rows .entry .counts)) (now (rows .entry .places)) (now (rows .entry .alterations)) (now (rows .entry .lengths)) (grain * (first + length (now (slots .entry)))) (now (cursors .entry))) ⌝ }
+{
+    let mut count = 0;
+    for (index, slot) in slots.iter().enumerate() {
+        let start = (GRAIN * (first + index)) as u32;
+        let mut voices = *slot;
+        while voices != 0 {
+            let voice = voices.trailing_zeros();
+            voices ^= 1 << voice;
+            let at = next_note(rows.places, cursors[voice as usize]);
+            cursors[voice as usize] = at + 1;
+            write_note(rows, at, voice as u8, start, &mut out[8 * count..]);
+            count += 1;
+        }
+    }
+    count
 }
