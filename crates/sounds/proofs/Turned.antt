@@ -58,30 +58,31 @@ from-later es u e i k =
 there : (ns ps xs ds : List ℕ) (e : ℕ) (cursors : List ℕ) (u : ℕ) (y : ℕ × Heard) (ys : Notes) → left ns ps xs ds e cursors u ≡ y ∷ ys → u < length ns
 unfolding until heard
 there ns ps xs ds e cursors u y ys h =
-    elim (cases-lt u (length ns))
-        [ inl l ↦ l
-        | inr l ↦
-            let i : ℕ = getD cursors u 0 - sum (take u ns) in
-            let n : voice (score-in ns ps xs ds) u ≡ [] = getD-past (score-in ns ps xs ds) u [] (omega (arith, length-dealt ns (voice-of ps xs ds))) in
-            let none : until u e (from-event [] i) ≡ [] = ap (λ (es : List Event). until u e (heard es (total (take i [])))) (drop-all i [] (omega arith)) in
-            let f : [] ≡ y ∷ ys = sym none ∙ ap (λ (es : List Event). until u e (from-event es i)) (sym n) ∙ h in
-            absurd (let z : _≡_ {A = ℕ} 0 1 = cc in omega arith) ]
+    elim (cases-lt u (length ns)) [
+      | inl l ↦ l
+      | inr l ↦
+          let i : ℕ = getD cursors u 0 - sum (take u ns) in
+          let n : voice (score-in ns ps xs ds) u ≡ [] = getD-past (score-in ns ps xs ds) u [] (omega (arith, length-dealt ns (voice-of ps xs ds))) in
+          let none : until u e (from-event [] i) ≡ [] = ap (λ (es : List Event). until u e (heard es (total (take i [])))) (drop-all i [] (omega arith)) in
+          let f : [] ≡ y ∷ ys = sym none ∙ ap (λ (es : List Event). until u e (from-event es i)) (sym n) ∙ h in
+          absurd (let z : _≡_ {A = ℕ} 0 1 = cc in omega arith)
+    ]
 
 -- The turn of voice v: its cursor passes over silences to a note, which is next of all that is left.
 module _ (ns ps xs ds : List ℕ) (e : ℕ) (cursors : List ℕ) (t m v : ℕ) (ms : List ℕ) where
-  abbrev pub At : ℕ
-  At = getD cursors v 0 + silences (drop (getD cursors v 0) ps)
-
-  pub record Turned : Type 0 where
+  pub record Turned (at : ℕ) : Type 0 where
     pub there : v < length ns
-    pub in-rows : At < length ps
-    pub place : getD ps At 0 < places
-    pub alteration : getD xs At 0 < alterations
-    pub long : getD ds At 0 < length-end
-    pub next : all-left ns ps xs ds e cursors ≡ (v, sound-at ps xs ds At t) ∷ all-left ns ps xs ds e (set cursors v (At + 1))
-    pub ready : Ready ns ps xs ds e (set cursors v (At + 1)) t (bitXor m (2 ^ v) ∷ ms)
+    pub in-rows : at < length ps
+    pub place : getD ps at 0 < places
+    pub alteration : getD xs at 0 < alterations
+    pub long : getD ds at 0 < length-end
+    pub next : all-left ns ps xs ds e cursors ≡ (v, sound-at ps xs ds at t) ∷ all-left ns ps xs ds e (set cursors v (at + 1))
+    pub ready : Ready ns ps xs ds e (set cursors v (at + 1)) t (bitXor m (2 ^ v) ∷ ms)
 
   module _ (laid : Laid ns ps xs ds) (room : length ns ≤ length cursors) (ready : Ready ns ps xs ds e cursors t (m ∷ ms)) (low : Lowest m v) where
+    abbrev At : ℕ
+    At = getD cursors v 0 + silences (drop (getD cursors v 0) ps)
+
     abbrev F : ℕ → Notes
     F = left ns ps xs ds e cursors
 
@@ -119,12 +120,12 @@ module _ (ns ps xs ds : List ℕ) (e : ℕ) (cursors : List ℕ) (t m v : ℕ) (
     coming : Next Left (drop Cur ps) (drop Cur xs) (drop Cur ds) K (total (take I Es)) v e (first .note) (first .rest)
     coming =
         next-heard (drop Cur ps) (drop Cur xs) (drop Cur ds) (getD ns v 0 - I) (total (take I Es)) v e (first .note) (first .rest)
-            (ap (λ (es : List Event). until v e (heard es (total (take I Es)))) (sym rows-left) ∙ first .is)
+        (ap (λ (es : List Event). until v e (heard es (total (take I Es)))) (sym rows-left) ∙ first .is)
 
     in-rows-left : At < length ps
     in-rows-left =
         let a : length (voice-of (drop Cur ps) (drop Cur xs) (drop Cur ds)) ≡ length (drop Cur ps) =
-            length-voice (drop Cur ps) (drop Cur xs) (drop Cur ds) (simp length-drop (omega (arith, laid .alterations-too))) (simp length-drop (omega (arith, laid .lengths-too))) in
+        length-voice (drop Cur ps) (drop Cur xs) (drop Cur ds) (simp length-drop (omega (arith, laid .alterations-too))) (simp length-drop (omega (arith, laid .lengths-too))) in
         let b = length-take (getD ns v 0 - I) (voice-of (drop Cur ps) (drop Cur xs) (drop Cur ds)) in
         let d = length-drop Cur ps in
         omega (arith, coming .in-voice, a, b, d)
@@ -137,7 +138,7 @@ module _ (ns ps xs ds : List ℕ) (e : ℕ) (cursors : List ℕ) (t m v : ℕ) (
         let f : all-fine (drop I Es) ≡ true = fine-parts I Es (fines-voice (score-in ns ps xs ds) v (laid .fines)) .1 in
         let g : fine (getD Left K (silence 0)) ≡ true = fine-at Left K (silence 0) (coming .in-voice) (ap all-fine (sym rows-left) ∙ f) in
         let h : note (getD (drop Cur ps) K 0) (getD (drop Cur xs) K 0) (getD (drop Cur ds) K 0) ≡ note (getD ps At 0) (getD xs At 0) (getD ds At 0) =
-            rw (getD-drop Cur ps K 0, getD-drop Cur xs K 0, getD-drop Cur ds K 0) in
+        rw (getD-drop Cur ps K 0, getD-drop Cur xs K 0, getD-drop Cur ds K 0) in
         ap fine (sym (coming .event ∙ h)) ∙ g
 
     gone : G v ≡ first .rest
@@ -153,11 +154,11 @@ module _ (ns ps xs ds : List ℕ) (e : ℕ) (cursors : List ℕ) (t m v : ℕ) (
     same : (u : ℕ) → (u ≡ v → ⊥) → F u ≡ G u
     same u ne = ap (λ (n : ℕ). until u e (from-event (voice (score-in ns ps xs ds) u) (n - sum (take u ns)))) (sym (getD-set-other cursors v u (At + 1) 0 ne))
 
-    pub turned : Turned
+    here : Turned At
     unfolding first
-    turned =
+    here =
         let n : first .note ≡ (v, sound-at ps xs ds At t) =
-            coming .sound ∙ ap (λ (i : ℕ). (v, sound-at (drop Cur ps) (drop Cur xs) (drop Cur ds) K i)) (first .starts-at) ∙ ap (λ (s : Heard). (v, s)) same-sound in
+        coming .sound ∙ ap (λ (i : ℕ). (v, sound-at (drop Cur ps) (drop Cur xs) (drop Cur ds) K i)) (first .starts-at) ∙ ap (λ (s : Heard). (v, s)) same-sound in
         let f = note-fields _ _ _ fine-note in
         record {
           there = in-score;
@@ -168,11 +169,15 @@ module _ (ns ps xs ds : List ℕ) (e : ℕ) (cursors : List ℕ) (t m v : ℕ) (
           next = turn-mixed F t m v ms (ready .begin) low G gone same (length ns) in-score ∙ ap (λ (y : ℕ × Heard). y ∷ all-left ns ps xs ds e (set cursors v (At + 1))) n;
           ready = record {
             begin = turn-begin F t m v ms (ready .begin) low G gone same;
-            reached = λ u l. elim (cases-eq u v)
-              [ inl q ↦
+            reached = λ u l. elim (cases-eq u v) [
+              | inl q ↦
                   let r = ready .reached v in-score in
                   let c : getD (set cursors v (At + 1)) v 0 ≡ At + 1 = getD-set-same cursors v (At + 1) 0 (omega (arith, in-score)) in
                   subst (λ (i : ℕ). sum (take i ns) ≤ getD (set cursors v (At + 1)) i 0) (sym q) (omega (arith, r, c))
-              | inr ne ↦ subst (λ (i : ℕ). sum (take u ns) ≤ i) (sym (getD-set-other cursors v u (At + 1) 0 ne)) (ready .reached u l) ];
+              | inr ne ↦ subst (λ (i : ℕ). sum (take u ns) ≤ i) (sym (getD-set-other cursors v u (At + 1) 0 ne)) (ready .reached u l)
+            ];
           };
         }
+
+    pub turned : (at : ℕ) → at ≡ At → Turned at
+    turned at q = subst Turned (sym q) here

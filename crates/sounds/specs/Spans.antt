@@ -78,7 +78,8 @@ abbrev pub score-in : List ℕ → List ℕ → List ℕ → List ℕ → Score
 score-in ns ps xs ds = dealt ns (voice-of ps xs ds)
 
 pub record Laid (ns ps xs ds : List ℕ) : Type 0 where
-  pub few : length ns ≤ 64
+  pub few-voices : length ns ≤ 64
+  pub few-events : length ps ≤ 65536
   pub alterations-too : length xs ≡ length ps
   pub lengths-too : length ds ≡ length ps
   pub fitting : sum ns ≤ length ps

@@ -89,7 +89,13 @@ fn next_note(places: &[u32], from: usize) -> usize
 }
 
 /// Writes what is left of all voices as the slots tell it: slot by slot, and in each the voices in order. Returns how many notes that is.
-fn write_slots(rows: Rows, slots: &[u64], first: usize, cursors: &mut [usize], out: &mut [u8]) -> usize
+fn write_slots(
+    rows: Rows,
+    slots: &[u64],
+    first: usize,
+    cursors: &mut [usize],
+    out: &mut [u8],
+) -> usize
     requires laid { ⌜ Laid (now (rows .counts)) (now (rows .places)) (now (rows .alterations)) (now (rows .lengths)) ⌝ }
     requires ready { ⌜ Ready (now (rows .counts)) (now (rows .places)) (now (rows .alterations)) (now (rows .lengths)) (grain * (first + length (now slots))) (now cursors) (grain * first) (now slots) ⌝ }
     requires small { ⌜ length (now (rows .counts)) ≤ length (now cursors) ⌝ ∗ ⌜ first + length (now slots) < 2 ^ 30 ⌝ }
