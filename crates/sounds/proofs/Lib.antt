@@ -6,3 +6,4 @@ pub mod Parts
 pub mod Walks
 pub mod Turned
 pub mod Writing
+pub mod Marked

@@ -73,7 +73,7 @@ lasts-voice (p ∷ ps) (x ∷ xs) (d ∷ ds) e q =
     let a = lasts-event p x d in
     let b = lasts-voice ps xs ds (omega arith) (omega arith) in cc
 
-total-sum : (es : List Event) → total es ≡ sum (map lasts es)
+pub total-sum : (es : List Event) → total es ≡ sum (map lasts es)
 unfolding total
 total-sum [] = refl
 total-sum (e ∷ es) = ap (λ (n : ℕ). lasts e + n) (total-sum es) ∙ sym (sumBy-cons (λ x. x) (lasts e) (map lasts es))
@@ -86,6 +86,11 @@ voice-dealt (n ∷ ns) es zero = refl
 voice-dealt (n ∷ ns) es (suc u) =
     voice-dealt ns (drop n es) u
     ∙ ap (λ (xs : List Event). take (getD ns u 0) xs) (drop-drop (sum (take u ns)) n es ∙ ap (λ (k : ℕ). drop k es) (sym (sumBy-cons (λ x. x) n (take u ns))))
+
+pub length-dealt : (ns : List ℕ) (es : List Event) → length (dealt ns es) ≡ length ns
+unfolding dealt
+length-dealt [] es = refl
+length-dealt (n ∷ ns) es = ap suc (length-dealt ns (drop n es))
 
 take-none : {A : Type 0} (n : ℕ) (xs : List A) → n ≡ 0 → take n xs ≡ []
 take-none n xs e = ap (λ (k : ℕ). take k xs) e
@@ -150,7 +155,7 @@ begins-passed u a e t (x ∷ es) =
     ]
 
 -- when its notes begin
-starts-until : (u e t : ℕ) (ps xs ds : List ℕ) → length xs ≡ length ps → starts (until u e (heard (voice-of ps xs ds) t)) ≡ note-ticks e t ps ds
+pub starts-until : (u e t : ℕ) (ps xs ds : List ℕ) → length xs ≡ length ps → starts (until u e (heard (voice-of ps xs ds) t)) ≡ note-ticks e t ps ds
 unfolding until heard voice-of note-ticks
 starts-until u e t [] xs ds h = refl
 starts-until u e t (p ∷ ps) [] ds h = absurd (omega arith)
@@ -175,13 +180,13 @@ starts-until u e t (p ∷ ps) (x ∷ xs) (d ∷ ds) h = go (eqb p places) (start
           | inr l ↦ ap starts (pick-false (ltb t e) _ _ (le-ltb _ _ l)) ∙ sym (pick-false (ltb t e) _ _ (le-ltb _ _ l))
         ]
 
-rising-later : (t r e : ℕ) (ts : List ℕ) → t ≤ r → Rising r e ts → Rising t e ts
+pub rising-later : (t r e : ℕ) (ts : List ℕ) → t ≤ r → Rising r e ts → Rising t e ts
 unfolding Rising
 rising-later t r e [] l h = tt
 rising-later t r e (x ∷ ts) l h = (omega (arith, h .0), h .1, h .2, h .3)
 
 -- which are ticks of slots
-rising-starts : (u e t : ℕ) (es : List Event) → all-fine es ≡ true → t % grain ≡ 0 → Rising t e (starts (until u e (heard es t)))
+pub rising-starts : (u e t : ℕ) (es : List Event) → all-fine es ≡ true → t % grain ≡ 0 → Rising t e (starts (until u e (heard es t)))
 unfolding Rising until heard all-fine lasts
 rising-starts u e t [] f m = tt
 rising-starts u e t (silence d ∷ es) f m =
@@ -211,7 +216,7 @@ same-span a b t m =
           ]
     ]
 
-begins-slots : (u a b t : ℕ) (es : List Event) → all-fine es ≡ true → t % grain ≡ 0 → begins u a b (heard es t) ≡ begins u (grain * up a) (grain * (up a + (up b - up a))) (heard es t)
+pub begins-slots : (u a b t : ℕ) (es : List Event) → all-fine es ≡ true → t % grain ≡ 0 → begins u a b (heard es t) ≡ begins u (grain * up a) (grain * (up a + (up b - up a))) (heard es t)
 unfolding begins heard all-fine lasts
 begins-slots u a b t [] f m = refl
 begins-slots u a b t (silence d ∷ es) f m =

@@ -21,15 +21,10 @@ use Rattle.memory.proofs.Scores.{fine-at, fines-voice, fine-parts}
 use Rattle.sounds.specs.Spans.{from-event, until, mixed, silences, grain, begun, sound-at, score-in, Laid, left, Begin, Ready, all-left}
 use Rattle.sounds.proofs.Bits.{Lowest}
 use Rattle.sounds.proofs.Turns.{First, turn-first, turn-mixed, turn-begin}
-use Rattle.sounds.proofs.Parts.{voice-drop, length-voice, voice-dealt, drop-take-sub, Next, next-heard}
+use Rattle.sounds.proofs.Parts.{voice-drop, length-voice, voice-dealt, length-dealt, drop-take-sub, Next, next-heard}
 
 abbrev Notes : Type 0
 Notes = List (ℕ × Heard)
-
-length-dealt : (ns : List ℕ) (es : List Event) → length (dealt ns es) ≡ length ns
-unfolding dealt
-length-dealt [] es = refl
-length-dealt (n ∷ ns) es = ap suc (length-dealt ns (drop n es))
 
 -- a note that can be written has fields in range
 note-fields : (p a d : ℕ) → fine (note p a d) ≡ true → (p < places) × (a < alterations) × (d < length-end)

@@ -40,7 +40,7 @@ pub begun-later : (u t m : ℕ) (ms : List ℕ) → bit m u ≡ 0 → begun u t 
 unfolding begun
 begun-later u t m ms z = pick-false (eqb (bit m u) 1) _ _ (ne-eqb _ _ (λ e. omega arith))
 
-begun-here : (u t m : ℕ) (ms : List ℕ) → bit m u ≡ 1 → begun u t (m ∷ ms) ≡ t ∷ begun u (t + grain) ms
+pub begun-here : (u t m : ℕ) (ms : List ℕ) → bit m u ≡ 1 → begun u t (m ∷ ms) ≡ t ∷ begun u (t + grain) ms
 unfolding begun
 begun-here u t m ms e = pick-true (eqb (bit m u) 1) _ _ (eq-eqb _ _ e)
 

@@ -48,6 +48,10 @@ note-ticks e t [] ds = []
 note-ticks e t (p ∷ ps) [] = []
 note-ticks e t (p ∷ ps) (d ∷ ds) = pick (ltb t e) (pick (eqb p places) (note-ticks e (t + d) ps ds) (t ∷ note-ticks e (t + d) ps ds)) []
 
+-- those from the r-th event on
+abbrev pub ticks-from : ℕ → List ℕ → List ℕ → ℕ → List ℕ
+ticks-from e ps ds r = note-ticks e (sum (take r ds)) (drop r ps) (drop r ds)
+
 -- how many silences come first
 unfoldable pub silences : List ℕ → ℕ
 silences [] = 0

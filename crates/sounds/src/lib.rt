@@ -2,11 +2,12 @@
 ghost use mathlib.Core.List.{_++_};
 ghost use mathlib.Core.Path.{_≡_};
 ghost use Prim.Native.Nat.{_+_, _*_, _^_, _<_, _≤_};
-ghost use lib.ListN.{length, getD, take, drop};
+ghost use lib.ListN.{length, getD, take, drop, replicate};
 ghost use Rattle.std.specs.shelf.Lists.{sum};
 ghost use Rattle.score.specs.Music.{places, alterations, length-end};
+ghost use Rattle.score.specs.Calls.{together};
 ghost use Rattle.wire.specs.Bytes.{sound-bytes, sounds-bytes};
-ghost use Rattle.sounds.specs.Spans.{sound-at, passed, note-ticks, silences, grain, marks, Laid, Ready, all-left};
+ghost use Rattle.sounds.specs.Spans.{sound-at, passed, note-ticks, ticks-from, silences, grain, marks, score-in, Laid, Ready, all-left};
 use keys::tone;
 use score::Sound;
 use wire::write_sound;
@@ -47,6 +48,7 @@ fn reach(lengths: &[u32], from: usize) -> (usize, usize)
     ensures index { λ r. ⌜ r .0 ≡ passed from 0 (now (lengths .entry)) ⌝ }
     ensures tick { λ r. ⌜ r .1 ≡ sum (take (r .0) (now (lengths .entry))) ⌝ }
     ensures reached { λ r. ⌜ (r .0 < length (now (lengths .entry)) → from ≤ r .1) ⌝ }
+    ensures inside { λ r. ⌜ r .0 ≤ length (now (lengths .entry)) ⌝ }
 {
     let mut tick = 0;
     for (index, length) in lengths.iter().enumerate() {
@@ -86,6 +88,49 @@ fn next_note(places: &[u32], from: usize) -> usize
         at += 1;
     }
     at
+}
+
+/// Sets a voice's bit in the slots in which it begins notes. Returns how many of its events begin before the first slot.
+fn mark_voice(places: &[u32], lengths: &[u32], voice: u32, first: usize, slots: &mut [u64]) -> usize
+    requires { ⌜ length (now places) ≡ length (now lengths) ⌝ ∗ ⌜ voice < 64 ⌝ ∗ ⌜ sum (now lengths) < 2 ^ 31 ⌝ ∗ ⌜ first < 2 ^ 30 ⌝ }
+    ensures index { λ r. ⌜ r ≡ passed (grain * first) 0 (now (lengths .entry)) ⌝ }
+    ensures marked { λ r. ⌜ now (slots .exit) ≡ marks voice first (ticks-from (grain * (first + length (now (slots .entry)))) (now (places .entry)) (now (lengths .entry)) r) (now (slots .entry)) ⌝ }
+    ensures inside { λ r. ⌜ r ≤ length (now (lengths .entry)) ⌝ }
+    ensures reached { λ r. ⌜ (r < length (now (lengths .entry)) → grain * first ≤ sum (take r (now (lengths .entry)))) ⌝ }
+{
+    let (passed, tick) = reach(lengths, GRAIN * first);
+    mark(
+        &places[passed..],
+        &lengths[passed..],
+        voice,
+        tick,
+        first,
+        slots,
+    );
+    passed
+}
+
+/// Sets the bits of all voices in the slots in which they begin notes, and each voice's cursor to its first event from the first slot on.
+fn mark_voices(rows: Rows, first: usize, slots: &mut [u64], cursors: &mut [usize])
+    requires laid { ⌜ Laid (now (rows .counts)) (now (rows .places)) (now (rows .alterations)) (now (rows .lengths)) ⌝ }
+    requires small { ⌜ length (now (rows .counts)) ≤ length (now cursors) ⌝ ∗ ⌜ first + length (now slots) < 2 ^ 30 ⌝ }
+    requires empty { ⌜ now slots ≡ replicate (length (now slots)) 0 ⌝ }
+    ensures ready { λ _. ⌜ Ready (now (rows .entry .counts)) (now (rows .entry .places)) (now (rows .entry .alterations)) (now (rows .entry .lengths)) (grain * (first + length (now (slots .entry)))) (now (cursors .exit)) (grain * first) (now (slots .exit)) ⌝ }
+    ensures whole { λ _. ⌜ all-left (now (rows .entry .counts)) (now (rows .entry .places)) (now (rows .entry .alterations)) (now (rows .entry .lengths)) (grain * (first + length (now (slots .entry)))) (now (cursors .exit)) ≡ together (score-in (now (rows .entry .counts)) (now (rows .entry .places)) (now (rows .entry .alterations)) (now (rows .entry .lengths))) 0 (grain * first) (grain * (first + length (now (slots .entry)))) ⌝ }
+{
+    let mut begin = 0;
+    for (voice, count) in rows.counts.iter().enumerate() {
+        let end = begin + *count as usize;
+        let passed = mark_voice(
+            &rows.places[begin..end],
+            &rows.lengths[begin..end],
+            voice as u32,
+            first,
+            slots,
+        );
+        cursors[voice] = begin + passed;
+        begin = end;
+    }
 }
 
 /// Writes what is left of all voices as the slots tell it: slot by slot, and in each the voices in order. Returns how many notes that is.

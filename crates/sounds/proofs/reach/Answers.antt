@@ -15,6 +15,7 @@ returns-then-tick-from c =
       index = omega (arith, c .loop-index .inv .1, e);
       tick = c .loop-index .inv .0;
       reached = λ _. c .if-tick-from .taken;
+      inside = c .loop-index .kept .index-end;
     }
 
 pub add-tick : need.add-tick
@@ -34,4 +35,5 @@ returns c =
       index = omega (arith, c .loop-index .inv .1, e);
       tick = c .loop-index .inv .0 ∙ ap (λ (n : ℕ). sum (take n (c .args .lengths .now))) i;
       reached = λ l. absurd (omega arith);
+      inside = omega arith;
     }
