@@ -7,3 +7,4 @@ pub mod Walks
 pub mod Turned
 pub mod Writing
 pub mod Marked
+pub mod Whole

@@ -202,7 +202,7 @@ rising-starts u e t (note p q d ∷ es) f m =
     (λ _. tt)
 
 -- A span from a up to before b, in slots: from that of number `first` on, up to before that of number `last`.
-abbrev up : ℕ → ℕ
+abbrev pub up : ℕ → ℕ
 up t = t / grain + min 1 (t % grain)
 
 same-span : (a b t : ℕ) → t % grain ≡ 0 → (leb a t && ltb t b) ≡ (leb (grain * up a) t && ltb t (grain * (up a + (up b - up a))))

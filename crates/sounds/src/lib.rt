@@ -5,11 +5,16 @@ ghost use Prim.Native.Nat.{_+_, _*_, _^_, _<_, _≤_};
 ghost use lib.ListN.{length, getD, take, drop, replicate};
 ghost use Rattle.std.specs.shelf.Lists.{sum};
 ghost use Rattle.score.specs.Music.{places, alterations, length-end};
-ghost use Rattle.score.specs.Calls.{together};
+ghost use Rattle.score.specs.Calls.{all-events, widest-span, together};
 ghost use Rattle.wire.specs.Bytes.{sound-bytes, sounds-bytes};
-ghost use Rattle.sounds.specs.Spans.{sound-at, passed, note-ticks, ticks-from, silences, grain, marks, score-in, Laid, Ready, all-left};
+ghost use Rattle.memory.specs.Store.{limit-in, score-of};
+ghost use Rattle.memory.specs.Words.{Holds};
+ghost use Rattle.sounds.specs.Spans.{passed, note-ticks, ticks-from, silences, grain, marks};
+ghost use Rattle.sounds.specs.Scores.{sound-at, score-in, Laid, Ready, all-left};
 use keys::tone;
 use score::Sound;
+use voices::Regions;
+use voices::regions_of;
 use wire::write_sound;
 
 /// The place of a silence, which no note has.
@@ -17,6 +22,16 @@ const SILENCE: u32 = 70;
 
 /// Every length is a multiple of so many ticks, so that notes begin only there.
 const GRAIN: usize = 3;
+
+/// The widest span has so many slots, one for each tick at which a note may begin.
+const MOST_SLOTS: usize = 512;
+
+const MOST_VOICES: usize = 64;
+
+/// The header's word for how many voices there are; behind the header is the count of the first voice.
+const VOICES: usize = 2;
+
+const COUNTS: usize = 4;
 
 /// A score as it lies in lent words: how many events each voice has, and the events of all voices, one voice after the other, in three rows.
 #[derive(Clone, Copy)]
@@ -31,7 +46,7 @@ struct Rows<'a> {
 fn write_note(rows: Rows, index: usize, voice: u8, start: u32, out: &mut [u8])
     requires { ⌜ index < length (now (rows .places)) ⌝ ∗ ⌜ index < length (now (rows .alterations)) ⌝ ∗ ⌜ index < length (now (rows .lengths)) ⌝ ∗ ⌜ 8 ≤ length (now out) ⌝ }
     requires { ⌜ getD (now (rows .places)) index 0 < places ⌝ ∗ ⌜ getD (now (rows .alterations)) index 0 < alterations ⌝ ∗ ⌜ getD (now (rows .lengths)) index 0 < length-end ⌝ }
-    ensures { λ _. ⌜ now (out .exit) ≡ sound-bytes (voice, sound-at (now (rows .entry .places)) (now (rows .entry .alterations)) (now (rows .entry .lengths)) index start) ++ drop 8 (now (out .entry)) ⌝ }
+    ensures { λ _. ⌜ now (out .exit) ≡ sound-bytes (voice, sound-at (rows .entry) index start) ++ drop 8 (now (out .entry)) ⌝ }
 {
     let sound = Sound {
         voice,
@@ -92,7 +107,7 @@ fn next_note(places: &[u32], from: usize) -> usize
 
 /// Sets a voice's bit in the slots in which it begins notes. Returns how many of its events begin before the first slot.
 fn mark_voice(places: &[u32], lengths: &[u32], voice: u32, first: usize, slots: &mut [u64]) -> usize
-    requires { ⌜ length (now places) ≡ length (now lengths) ⌝ ∗ ⌜ voice < 64 ⌝ ∗ ⌜ sum (now lengths) < 2 ^ 31 ⌝ ∗ ⌜ first < 2 ^ 30 ⌝ }
+    requires { ⌜ length (now places) ≡ length (now lengths) ⌝ ∗ ⌜ voice < 64 ⌝ ∗ ⌜ sum (now lengths) < 2 ^ 31 ⌝ ∗ ⌜ grain * first < 2 ^ 32 ⌝ }
     ensures index { λ r. ⌜ r ≡ passed (grain * first) 0 (now (lengths .entry)) ⌝ }
     ensures marked { λ r. ⌜ now (slots .exit) ≡ marks voice first (ticks-from (grain * (first + length (now (slots .entry)))) (now (places .entry)) (now (lengths .entry)) r) (now (slots .entry)) ⌝ }
     ensures inside { λ r. ⌜ r ≤ length (now (lengths .entry)) ⌝ }
@@ -112,11 +127,11 @@ fn mark_voice(places: &[u32], lengths: &[u32], voice: u32, first: usize, slots: 
 
 /// Sets the bits of all voices in the slots in which they begin notes, and each voice's cursor to its first event from the first slot on.
 fn mark_voices(rows: Rows, first: usize, slots: &mut [u64], cursors: &mut [usize])
-    requires laid { ⌜ Laid (now (rows .counts)) (now (rows .places)) (now (rows .alterations)) (now (rows .lengths)) ⌝ }
-    requires small { ⌜ length (now (rows .counts)) ≤ length (now cursors) ⌝ ∗ ⌜ first + length (now slots) < 2 ^ 30 ⌝ }
+    requires laid { ⌜ Laid rows ⌝ }
+    requires small { ⌜ length (now (rows .counts)) ≤ length (now cursors) ⌝ ∗ ⌜ grain * (first + length (now slots)) < 2 ^ 32 ⌝ }
     requires empty { ⌜ now slots ≡ replicate (length (now slots)) 0 ⌝ }
-    ensures ready { λ _. ⌜ Ready (now (rows .entry .counts)) (now (rows .entry .places)) (now (rows .entry .alterations)) (now (rows .entry .lengths)) (grain * (first + length (now (slots .entry)))) (now (cursors .exit)) (grain * first) (now (slots .exit)) ⌝ }
-    ensures whole { λ _. ⌜ all-left (now (rows .entry .counts)) (now (rows .entry .places)) (now (rows .entry .alterations)) (now (rows .entry .lengths)) (grain * (first + length (now (slots .entry)))) (now (cursors .exit)) ≡ together (score-in (now (rows .entry .counts)) (now (rows .entry .places)) (now (rows .entry .alterations)) (now (rows .entry .lengths))) 0 (grain * first) (grain * (first + length (now (slots .entry)))) ⌝ }
+    ensures ready { λ _. ⌜ Ready (rows .entry) (grain * (first + length (now (slots .entry)))) (now (cursors .exit)) (grain * first) (now (slots .exit)) ⌝ }
+    ensures whole { λ _. ⌜ all-left (rows .entry) (grain * (first + length (now (slots .entry)))) (now (cursors .exit)) ≡ together (score-in (rows .entry)) 0 (grain * first) (grain * (first + length (now (slots .entry)))) ⌝ }
 {
     let mut begin = 0;
     for (voice, count) in rows.counts.iter().enumerate() {
@@ -141,12 +156,12 @@ fn write_slots(
     cursors: &mut [usize],
     out: &mut [u8],
 ) -> usize
-    requires laid { ⌜ Laid (now (rows .counts)) (now (rows .places)) (now (rows .alterations)) (now (rows .lengths)) ⌝ }
-    requires ready { ⌜ Ready (now (rows .counts)) (now (rows .places)) (now (rows .alterations)) (now (rows .lengths)) (grain * (first + length (now slots))) (now cursors) (grain * first) (now slots) ⌝ }
-    requires small { ⌜ length (now (rows .counts)) ≤ length (now cursors) ⌝ ∗ ⌜ first + length (now slots) < 2 ^ 30 ⌝ }
-    requires room { ⌜ 8 * length (all-left (now (rows .counts)) (now (rows .places)) (now (rows .alterations)) (now (rows .lengths)) (grain * (first + length (now slots))) (now cursors)) ≤ length (now out) ⌝ }
-    ensures wrote { λ r. ⌜ now (out .exit) ≡ sounds-bytes (all-left (now (rows .entry .counts)) (now (rows .entry .places)) (now (rows .entry .alterations)) (now (rows .entry .lengths)) (grain * (first + length (now (slots .entry)))) (now (cursors .entry))) ++ drop (8 * r) (now (out .entry)) ⌝ }
-    ensures many { λ r. ⌜ r ≡ length (all-left (now (rows .entry .counts)) (now (rows .entry .places)) (now (rows .entry .alterations)) (now (rows .entry .lengths)) (grain * (first + length (now (slots .entry)))) (now (cursors .entry))) ⌝ }
+    requires laid { ⌜ Laid rows ⌝ }
+    requires ready { ⌜ Ready rows (grain * (first + length (now slots))) (now cursors) (grain * first) (now slots) ⌝ }
+    requires small { ⌜ length (now (rows .counts)) ≤ length (now cursors) ⌝ ∗ ⌜ grain * (first + length (now slots)) < 2 ^ 32 ⌝ }
+    requires room { ⌜ 8 * length (all-left rows (grain * (first + length (now slots))) (now cursors)) ≤ length (now out) ⌝ }
+    ensures wrote { λ r. ⌜ now (out .exit) ≡ sounds-bytes (all-left (rows .entry) (grain * (first + length (now (slots .entry)))) (now (cursors .entry))) ++ drop (8 * r) (now (out .entry)) ⌝ }
+    ensures many { λ r. ⌜ r ≡ length (all-left (rows .entry) (grain * (first + length (now (slots .entry)))) (now (cursors .entry))) ⌝ }
 {
     let mut count = 0;
     for (index, slot) in slots.iter().enumerate() {
@@ -162,4 +177,59 @@ fn write_slots(
         }
     }
     count
+}
+
+/// Writes what is heard of all voices from a slot on, with empty slots and cursors to work on. Returns how many notes that is.
+fn write_span(
+    rows: Rows,
+    first: usize,
+    slots: &mut [u64],
+    cursors: &mut [usize],
+    out: &mut [u8],
+) -> usize
+    requires laid { ⌜ Laid rows ⌝ }
+    requires small { ⌜ length (now (rows .counts)) ≤ length (now cursors) ⌝ ∗ ⌜ grain * (first + length (now slots)) < 2 ^ 32 ⌝ }
+    requires empty { ⌜ now slots ≡ replicate (length (now slots)) 0 ⌝ }
+    requires room { ⌜ 8 * all-events (score-in rows) ≤ length (now out) ⌝ }
+    ensures wrote { λ r. ⌜ now (out .exit) ≡ sounds-bytes (together (score-in (rows .entry)) 0 (grain * first) (grain * (first + length (now (slots .entry))))) ++ drop (8 * r) (now (out .entry)) ⌝ }
+    ensures many { λ r. ⌜ r ≡ length (together (score-in (rows .entry)) 0 (grain * first) (grain * (first + length (now (slots .entry))))) ⌝ }
+{
+    mark_voices(rows, first, slots, cursors);
+    write_slots(rows, slots, first, cursors, out)
+}
+
+/// The score that lent words hold, in rows.
+fn rows_of(words: &[u32]) -> Rows<'_>
+    requires { ⌜ Holds (now words) ⌝ }
+    ensures score { λ r. ⌜ score-in r ≡ score-of (now (words .entry)) ⌝ }
+    ensures laid { λ r. ⌜ Laid r ⌝ }
+{
+    let voices = words[VOICES] as usize;
+    let Regions {
+        places,
+        alterations,
+        lengths,
+    } = regions_of(words);
+    Rows {
+        counts: &words[COUNTS..COUNTS + voices],
+        places: &words[places..alterations],
+        alterations: &words[alterations..lengths],
+        lengths: &words[lengths..],
+    }
+}
+
+/// Writes the notes of all voices that begin from a tick up to before another, by time, and by voice where times are the same, over the front of lent
+/// bytes: eight bytes each. Returns how many they are.
+pub fn heard_in(words: &[u32], from: u32, to: u32, out: &mut [u8]) -> usize
+    requires { ⌜ Holds (now words) ⌝ ∗ ⌜ to ≤ from + widest-span ⌝ ∗ ⌜ 8 * limit-in (now words) ≤ length (now out) ⌝ }
+    ensures wrote { λ r. ⌜ now (out .exit) ≡ sounds-bytes (together (score-of (now (words .entry))) 0 from to) ++ drop (8 * r) (now (out .entry)) ⌝ }
+    ensures many { λ r. ⌜ r ≡ length (together (score-of (now (words .entry))) 0 from to) ⌝ }
+    ensures few { λ r. ⌜ r ≤ limit-in (now (words .entry)) ⌝ }
+{
+    let first = (from as usize).div_ceil(GRAIN);
+    let used = (to as usize).div_ceil(GRAIN).saturating_sub(first);
+    let rows = rows_of(words);
+    let mut slots = [0; MOST_SLOTS];
+    let mut cursors = [0; MOST_VOICES];
+    write_span(rows, first, &mut slots[0..used], &mut cursors, out)
 }
