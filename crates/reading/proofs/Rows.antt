@@ -1,15 +1,21 @@
 -- The first symbol of a row of bytes, and those behind it. Assumes nothing.
 use mathlib.Core.Path.{_≡_, refl, sym, ap, _∙_, subst}
-use mathlib.Core.Bool.{Bool, true, false}
-use mathlib.Core.List.{List, [], _∷_}
+use mathlib.Core.Bool.{Bool, true, false, _&&_}
+use mathlib.Core.List.{List, [], _∷_, _++_}
 use Prim.Native.Nat.{ℕ, _+_, _*_, _≤_, _<_}
 use native.Mathlib.Omega.{arith}
 use lib.ListN.{length, drop, getD}
+use Rattle.std.proofs.shelf.Lists.{drop-at}
+use Rattle.std.proofs.shelf.Tests.{and-parts}
 use Rattle.std.specs.declared.option.Option.{Option}
 use Rattle.std.specs.declared.option.Option.the-variants.{Some, None}
 use Rattle.score.specs.Music.{pick}
 use Rattle.score.specs.Print.{Symbol, bar, head, rest}
+use Rattle.score.proofs.Picks.{pick-true}
+use Rattle.wire.specs.Bytes.{symbol-bytes, symbols-bytes, each}
 use Rattle.wire.specs.Reading.{of-two, symbol-by, symbol-of}
+use Rattle.wire.proofs.Back.{symbols-back as symbol-back}
+use Rattle.wire.proofs.Rows.{length-symbol}
 use Rattle.reading.specs.Player.{can-play}
 use Rattle.reading.specs.Symbols.{playable, before, symbols-of}
 
@@ -45,3 +51,16 @@ none (k ∷ (p ∷ [])) e = refl
 none (k ∷ (p ∷ (s ∷ []))) e = refl
 none (k ∷ (p ∷ (s ∷ (l ∷ [])))) e = refl
 none (k ∷ (p ∷ (s ∷ (l ∷ (h ∷ bs))))) e = ap (λ (o : Option Symbol). before o (symbols-of bs)) (sym e)
+
+-- symbols that can be played are found again in their bytes
+unfoldable pub all-play : List Symbol → Bool
+all-play [] = true
+all-play (x ∷ xs) = can-play x && all-play xs
+
+pub symbols-back : (xs : List Symbol) → all-play xs ≡ true → symbols-of (symbols-bytes xs) ≡ xs
+unfolding all-play each symbols-of
+symbols-back [] h = refl
+symbols-back (x ∷ xs) h =
+    let both = and-parts _ _ h in
+    let e : Some x ≡ playable (symbol-of (symbol-bytes x ++ symbols-bytes xs)) = sym (ap playable (symbol-back x (symbols-bytes xs)) ∙ pick-true _ _ _ (both .0)) in
+    found (symbol-bytes x ++ symbols-bytes xs) x e .row ∙ ap (λ (bs : List ℕ). x ∷ symbols-of bs) (drop-at (symbol-bytes x) (symbols-bytes xs) 5 (length-symbol x)) ∙ ap (λ (ys : List Symbol). x ∷ ys) (symbols-back xs (both .1))
