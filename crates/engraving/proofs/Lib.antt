@@ -1,3 +1,4 @@
 pub mod Page
 pub mod Turns
 pub mod Room
+pub mod Parts

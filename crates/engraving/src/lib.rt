@@ -1,13 +1,16 @@
 //! A voice printed as symbols, from any bar on.
-ghost use mathlib.Core.List.{_++_};
+ghost use mathlib.Core.List.{List, _++_};
 ghost use mathlib.Core.Path.{_≡_};
 ghost use Prim.Native.Nat.{_≤_, _<_};
-ghost use lib.ListN.{length, drop};
+ghost use lib.ListN.{length, take, drop};
 ghost use Rattle.score.specs.Calls.{most-bars};
 ghost use Rattle.score.specs.Meaning.{symbol-meant};
 ghost use Rattle.score.specs.Music.{places};
+ghost use Rattle.score.specs.Print.{from-bar, so-many};
+ghost use Rattle.score.specs.Print.{Symbol as Printed};
 ghost use Rattle.laws.specs.Owed.{one};
-ghost use Rattle.engraving.specs.Shown.{shown, page-bytes};
+ghost use Rattle.wire.specs.Bytes.{symbols-bytes};
+ghost use Rattle.engraving.specs.Shown.{shown, page-bytes, bars-take};
 ghost use Rattle.engraving.specs.Voice.{voice-in, Ready};
 use keys::PLACES;
 use keys::begin_bar;
@@ -20,6 +23,9 @@ pub mod voice;
 
 use voice::Layout;
 use voice::Rows;
+
+/// The first byte of a bar line.
+const BAR_LINE: u8 = 0;
 
 /// The place of a silence, which no note has.
 const SILENT: u32 = 70;
@@ -125,4 +131,30 @@ pub fn engrave_page(rows: Rows, layout: Layout, from: u32, count: u32, out: &mut
     ensures many { λ r. ⌜ r ≡ length (shown (layout .key) (layout .bar) (voice-in (rows .entry)) from count) ⌝ }
 {
     engrave(rows, layout, from, count, out)
+}
+
+/// How many bytes the first `count` bars of what is printed take, with their lines.
+fn bytes_of_bars(page: &[u8], count: u32) -> usize
+    ensures is { λ r. ⌜ r ≡ bars-take count (now (page .entry)) ⌝ }
+    ensures within { λ r. ⌜ r ≤ length (now (page .entry)) ⌝ }
+{
+    let mut at = 0;
+    let mut more = count;
+    while more > 0 && page.len() - at >= 5 {
+        if page[at] == BAR_LINE {
+            more -= 1;
+        }
+        at += 5;
+    }
+    at
+}
+
+/// Of what is printed, the bars from number `from` on, up to `count` of them: a part that is handed on as it stands there.
+pub fn bars_of(page: &[u8], from: u32, count: u32) -> &[u8]
+    ensures part { λ r. ⌜ now r ≡ take (bars-take count (drop (bars-take from (now (page .entry))) (now (page .entry)))) (drop (bars-take from (now (page .entry))) (now (page .entry))) ⌝ }
+    ensures bars { λ r. ⌜ ((xs : List Printed) → now (page .entry) ≡ symbols-bytes xs → now r ≡ symbols-bytes (so-many (from-bar from xs) count)) ⌝ }
+{
+    let begin = bytes_of_bars(page, from);
+    let end = begin + bytes_of_bars(&page[begin..], count);
+    &page[begin..end]
 }

@@ -79,7 +79,7 @@ fn ticks_of(rows: Rows) -> Result<u32, Refusal>
 }
 
 /// How many bars the voice takes, if it can be read back: the layout is good, the events can be written, and there is room for all.
-fn bars_of(rows: Rows, layout: Layout, page: usize, notes: usize) -> Result<u32, Refusal>
+fn bars_needed(rows: Rows, layout: Layout, page: usize, notes: usize) -> Result<u32, Refusal>
     ensures { λ r. ⌜ r ≡ bars-or-refusal (rows .entry) layout page notes ⌝ }
 {
     if !is_good(layout) {
@@ -112,7 +112,7 @@ pub fn read_back(
     ensures said { λ r. ⌜ r ≡ answered (rows .entry) layout (length (now (page .entry))) (length (now (notes .entry))) ⌝ }
     ensures left { λ r. ⌜ Cases r (λ b. Back (rows .entry) layout b (now (page .entry)) (now (page .exit)) (now (notes .entry)) (now (notes .exit))) (λ _. Unchanged (now (page .entry)) (now (page .exit)) (now (notes .entry)) (now (notes .exit))) ⌝ }
 {
-    let bars = bars_of(rows, layout, page.len(), notes.len())?;
+    let bars = bars_needed(rows, layout, page.len(), notes.len())?;
     let bytes = engrave(rows, layout, 0, bars, page);
     let Ok(heard) = read(&page[0..bytes], layout.key, notes) else {
         unreachable()

@@ -4,7 +4,7 @@ use mathlib.Core.Path.{sym}
 use Prim.Native.Nat.{_+_, _/_}
 use native.Mathlib.Omega.{arith}
 use Rattle.readback.proofs.Checks.{good, page-small}
-use Rattle.readback.proofs.bars_of.Needs as need
+use Rattle.readback.proofs.bars_needed.Needs as need
 
 pub mul-symbols-2 : need.mul-symbols-2
 mul-symbols-2 c =
