@@ -8,3 +8,4 @@ pub mod Turned
 pub mod Writing
 pub mod Marked
 pub mod Whole
+pub mod Line

@@ -4,6 +4,7 @@ use mathlib.Core.Logic.{_⊎_, inl, inr}
 use mathlib.Core.Bool.{Bool, true, false, _&&_}
 use mathlib.Core.List.{List, [], _∷_, map}
 use Prim.Native.Nat.{ℕ, zero, suc, _+_, _-_, _*_, _/_, _%_, _≤_, _<_, min}
+use native.Mathlib.Nat.{zero-add, add-assoc, suc-add}
 use native.Mathlib.Omega.{arith}
 use lib.Dec.{eqb, ltb, leb}
 use lib.ListN.{length, getD, take, drop}
@@ -11,13 +12,13 @@ use Rattle.std.specs.shelf.Lists.{sum}
 use Rattle.std.proofs.shelf.Lists.{drop-drop, take-all}
 use Rattle.std.proofs.shelf.Sums.{sumBy-cons}
 use Rattle.std.proofs.shelf.Tests.{and-parts, and-from, and-left, and-right, cases-lt, le-leb, lt-leb, lt-ltb, le-ltb, ltb-true, ltb-false}
-use Rattle.score.specs.Music.{pick, places, Event, note, silence, lasts, tone, Heard, heard, total, fine, all-fine}
+use Rattle.score.specs.Music.{pick, places, alterations, length-end, Event, note, silence, lasts, tone, Heard, heard, total, fine, all-fine, fine-length}
 use Rattle.score.specs.Calls.{Score, voice, begins}
 use Rattle.score.proofs.Picks.{pick-true, pick-false, pick-both, pick-same}
 use Rattle.laws.specs.Rows.{event-of, voice-of}
 use Rattle.laws.proofs.Events.{fine-lasts}
 use Rattle.memory.specs.Store.{dealt}
-use Rattle.sounds.specs.Spans.{from-event, until, starts, grain, passed, note-ticks, silences}
+use Rattle.sounds.specs.Spans.{from-event, until, starts, grain, passed, note-ticks, silences, sound-at}
 use Rattle.sounds.proofs.Slots.{Rising}
 
 abbrev Notes : Type 0
@@ -77,6 +78,24 @@ pub total-sum : (es : List Event) → total es ≡ sum (map lasts es)
 unfolding total
 total-sum [] = refl
 total-sum (e ∷ es) = ap (λ (n : ℕ). lasts e + n) (total-sum es) ∙ sym (sumBy-cons (λ x. x) (lasts e) (map lasts es))
+
+-- the ticks of a front, in two parts
+pub total-take : (i k : ℕ) (es : List Event) → total (take i es) + total (take k (drop i es)) ≡ total (take (i + k) es)
+unfolding total
+total-take zero k es = zero-add _ ∙ ap (λ (n : ℕ). total (take n es)) (sym (zero-add k))
+total-take (suc i) k [] = zero-add _ ∙ ap total (take-all k [] (omega arith)) ∙ sym (ap total (take-all (suc i + k) [] (omega arith)))
+total-take (suc i) k (e ∷ es) =
+    let ih = total-take i k es in
+    add-assoc (lasts e) _ _ ∙ ap (λ (n : ℕ). lasts e + n) ih ∙ ap (λ (n : ℕ). total (take n (e ∷ es))) (sym (suc-add i k))
+
+-- a note that can be written has fields in range
+pub note-fields : (p a d : ℕ) → fine (note p a d) ≡ true → (p < places) × (a < alterations) × (d < length-end)
+unfolding fine
+note-fields p a d h =
+    let x = and-parts (ltb p places && ltb a alterations) (fine-length d) h in
+    let y = and-parts (ltb p places) (ltb a alterations) (x .0) in
+    let z = and-parts (ltb 0 d) (ltb d length-end) (and-parts (ltb 0 d && ltb d length-end) _ (x .1) .0) in
+    (ltb-true p places (y .0), ltb-true a alterations (y .1), ltb-true d length-end (z .1))
 
 -- a voice among those that are dealt out
 pub voice-dealt : (ns : List ℕ) (es : List Event) (u : ℕ) → voice (dealt ns es) u ≡ take (getD ns u 0) (drop (sum (take u ns)) es)
@@ -233,51 +252,79 @@ begins-slots u a b t (note p q d ∷ es) f m =
 -- ---- the note that comes next
 
 -- Of events in three rows, it is the one of index k, behind the silences that come first.
+pub record Coming (es : List Event) (ps xs ds : List ℕ) (k t : ℕ) : Type 0 where
+  pub in-voice : k < length es
+  pub event : getD es k (silence 0) ≡ note (getD ps k 0) (getD xs k 0) (getD ds k 0)
+  pub first : heard es t ≡ sound-at ps xs ds k (t + total (take k es)) ∷ heard (drop (suc k) es) (t + total (take (suc k) es))
+
+-- or there are only silences
+pub record Silent (es : List Event) (k t : ℕ) : Type 0 where
+  pub all-passed : length es ≤ k
+  pub nothing : heard es t ≡ []
+
+coming-step :
+    (p x d : ℕ) (ps xs ds : List ℕ) (es : List Event) (k t : ℕ) (b : Bool) → Coming es ps xs ds k (t + d) ⊎ Silent es k (t + d)
+    → Coming (pick b (silence d) (note p x d) ∷ es) (p ∷ ps) (x ∷ xs) (d ∷ ds) (pick b (suc k) 0) t ⊎ Silent (pick b (silence d) (note p x d) ∷ es) (pick b (suc k) 0) t
+unfolding heard total lasts
+coming-step p x d ps xs ds es k t true (inl c) =
+    let a : t + d + total (take k es) ≡ t + (d + total (take k es)) = omega arith in
+    let b : t + d + total (take (suc k) es) ≡ t + (d + total (take (suc k) es)) = omega arith in
+    inl record {
+      in-voice = omega (arith, c .in-voice);
+      event = c .event;
+      first =
+          c .first ∙ ap (λ (n : ℕ). sound-at ps xs ds k n ∷ heard (drop (suc k) es) (t + d + total (take (suc k) es))) a
+          ∙ ap (λ (n : ℕ). sound-at ps xs ds k (t + (d + total (take k es))) ∷ heard (drop (suc k) es) n) b;
+    }
+coming-step p x d ps xs ds es k t true (inr s) = inr record { all-passed = omega (arith, s .all-passed); nothing = s .nothing }
+coming-step p x d ps xs ds es k t false r =
+    let a : t ≡ t + 0 = omega arith in
+    let b : t + d ≡ t + (d + 0) = omega arith in
+    inl record {
+      in-voice = omega arith;
+      event = refl;
+      first = ap (λ (n : ℕ). record { start = n; long = d; high = tone p x } ∷ heard es (t + d)) a ∙ ap (λ (n : ℕ). record { start = t + 0; long = d; high = tone p x } ∷ heard es n) b;
+    }
+
+pub coming : (ps xs ds : List ℕ) (n t : ℕ) → Coming (take n (voice-of ps xs ds)) ps xs ds (silences ps) t ⊎ Silent (take n (voice-of ps xs ds)) (silences ps) t
+unfolding heard voice-of silences
+coming ps xs ds zero t = inr record { all-passed = omega arith; nothing = refl }
+coming [] xs ds (suc n) t = inr record { all-passed = omega arith; nothing = refl }
+coming (p ∷ ps) [] ds (suc n) t = inr record { all-passed = omega arith; nothing = refl }
+coming (p ∷ ps) (x ∷ xs) [] (suc n) t = inr record { all-passed = omega arith; nothing = refl }
+coming (p ∷ ps) (x ∷ xs) (d ∷ ds) (suc n) t = coming-step p x d ps xs ds (take n (voice-of ps xs ds)) (silences ps) t (eqb p places) (coming ps xs ds n (t + d))
+
+-- the same of what begins before tick e, of voice u
 pub record Next (es : List Event) (ps xs ds : List ℕ) (k t u e : ℕ) (y : ℕ × Heard) (ys : List (ℕ × Heard)) : Type 0 where
   pub in-voice : k < length es
   pub event : getD es k (silence 0) ≡ note (getD ps k 0) (getD xs k 0) (getD ds k 0)
-  pub sound : y ≡ (u, record { start = y .1 .start; long = getD ds k 0; high = tone (getD ps k 0) (getD xs k 0) })
+  pub sound : y ≡ (u, sound-at ps xs ds k (y .1 .start))
   pub rest : ys ≡ until u e (heard (drop (suc k) es) (t + total (take (suc k) es)))
 
 no-note : {A : Type 0} (y : ℕ × Heard) (ys : Notes) → [] ≡ y ∷ ys → A
 no-note y ys e = absurd (let z : _≡_ {A = ℕ} 0 1 = cc in omega arith)
 
-next-step :
-    (p x d : ℕ) (ps xs ds : List ℕ) (es : List Event) (k t u e : ℕ) (y : ℕ × Heard) (ys : Notes) (b : Bool)
-    → (until u e (heard es (t + d)) ≡ y ∷ ys → Next es ps xs ds k (t + d) u e y ys)
-    → until u e (heard (pick b (silence d) (note p x d) ∷ es) t) ≡ y ∷ ys
-    → Next (pick b (silence d) (note p x d) ∷ es) (p ∷ ps) (x ∷ xs) (d ∷ ds) (pick b (suc k) 0) t u e y ys
-unfolding until heard total lasts
-next-step p x d ps xs ds es k t u e y ys true ih h =
-    let n = ih h in
-    record {
-      in-voice = omega (arith, n .in-voice);
-      event = n .event;
-      sound = n .sound;
-      rest = n .rest ∙ ap (λ (r : ℕ). until u e (heard (drop (suc k) es) r)) (omega arith);
-    }
-next-step p x d ps xs ds es k t u e y ys false ih h =
-    elim (cases-lt t e) [
-      | inl l ↦
-          let f : (u, record { start = t; long = d; high = tone p x }) ∷ until u e (heard es (t + d)) ≡ y ∷ ys = sym (pick-true (ltb t e) _ _ (lt-ltb _ _ l)) ∙ h in
-          let g : y ≡ (u, record { start = t; long = d; high = tone p x }) = cc in
-          let r : ys ≡ until u e (heard es (t + d)) = cc in
-          record {
-            in-voice = omega arith;
-            event = refl;
-            sound = g ∙ ap (λ (i : ℕ). (u, record { start = i; long = d; high = tone p x })) (sym (ap (λ (z : ℕ × Heard). z .1 .start) g));
-            rest = r ∙ ap (λ (i : ℕ). until u e (heard es i)) (omega arith);
-          }
-      | inr l ↦ no-note y ys (sym (pick-false (ltb t e) _ _ (le-ltb _ _ l)) ∙ h)
+until-first : (u e : ℕ) (h : Heard) (hs : List Heard) (y : ℕ × Heard) (ys : Notes) → until u e (h ∷ hs) ≡ y ∷ ys → (y ≡ (u, h)) × (ys ≡ until u e hs)
+unfolding until
+until-first u e h hs y ys q =
+    elim (cases-lt (h .start) e) [
+      | inl l ↦ let f : (u, h) ∷ until u e hs ≡ y ∷ ys = sym (pick-true (ltb (h .start) e) _ _ (lt-ltb _ _ l)) ∙ q in (cc, cc)
+      | inr l ↦ no-note y ys (sym (pick-false (ltb (h .start) e) _ _ (le-ltb _ _ l)) ∙ q)
     ]
 
 pub next-heard :
     (ps xs ds : List ℕ) (n t u e : ℕ) (y : ℕ × Heard) (ys : Notes) → until u e (heard (take n (voice-of ps xs ds)) t) ≡ y ∷ ys
     → Next (take n (voice-of ps xs ds)) ps xs ds (silences ps) t u e y ys
-unfolding until heard voice-of silences
-next-heard ps xs ds zero t u e y ys h = no-note y ys h
-next-heard [] xs ds (suc n) t u e y ys h = no-note y ys h
-next-heard (p ∷ ps) [] ds (suc n) t u e y ys h = no-note y ys h
-next-heard (p ∷ ps) (x ∷ xs) [] (suc n) t u e y ys h = no-note y ys h
-next-heard (p ∷ ps) (x ∷ xs) (d ∷ ds) (suc n) t u e y ys h =
-    next-step p x d ps xs ds (take n (voice-of ps xs ds)) (silences ps) t u e y ys (eqb p places) (next-heard ps xs ds n (t + d) u e y ys) h
+unfolding until
+next-heard ps xs ds n t u e y ys h =
+    elim (coming ps xs ds n t) [
+      | inl c ↦
+          let f = until-first u e _ _ y ys (ap (until u e) (sym (c .first)) ∙ h) in
+          record {
+            in-voice = c .in-voice;
+            event = c .event;
+            sound = f .0 ∙ ap (λ (i : ℕ). (u, sound-at ps xs ds (silences ps) i)) (sym (ap (λ (z : ℕ × Heard). z .1 .start) (f .0)));
+            rest = f .1;
+          }
+      | inr s ↦ no-note y ys (ap (until u e) (sym (s .nothing)) ∙ h)
+    ]

@@ -4,7 +4,6 @@ use mathlib.Core.Logic.{_⊎_, inl, inr}
 use mathlib.Core.Bool.{true, _&&_}
 use mathlib.Core.List.{List, [], _∷_}
 use Prim.Native.Nat.{ℕ, zero, suc, _+_, _-_, _^_, _≤_, _<_}
-use native.Mathlib.Nat.{zero-add, add-assoc, suc-add}
 use native.Mathlib.Omega.{arith}
 use lib.Bits.{bitXor}
 use lib.Dec.{ltb}
@@ -21,28 +20,10 @@ use Rattle.memory.proofs.Scores.{fine-at, fines-voice, fine-parts}
 use Rattle.sounds.specs.Spans.{from-event, until, mixed, silences, grain, begun, sound-at, score-in, Laid, left, Begin, Ready, all-left}
 use Rattle.sounds.proofs.Bits.{Lowest}
 use Rattle.sounds.proofs.Turns.{First, turn-first, turn-mixed, turn-begin}
-use Rattle.sounds.proofs.Parts.{voice-drop, length-voice, voice-dealt, length-dealt, drop-take-sub, Next, next-heard}
+use Rattle.sounds.proofs.Parts.{voice-drop, length-voice, voice-dealt, length-dealt, drop-take-sub, total-take, note-fields, Next, next-heard}
 
 abbrev Notes : Type 0
 Notes = List (ℕ × Heard)
-
--- a note that can be written has fields in range
-note-fields : (p a d : ℕ) → fine (note p a d) ≡ true → (p < places) × (a < alterations) × (d < length-end)
-unfolding fine
-note-fields p a d h =
-    let x = and-parts (ltb p places && ltb a alterations) (fine-length d) h in
-    let y = and-parts (ltb p places) (ltb a alterations) (x .0) in
-    let z = and-parts (ltb 0 d) (ltb d length-end) (and-parts (ltb 0 d && ltb d length-end) _ (x .1) .0) in
-    (ltb-true p places (y .0), ltb-true a alterations (y .1), ltb-true d length-end (z .1))
-
--- the ticks of a front, in two parts
-total-take : (i k : ℕ) (es : List Event) → total (take i es) + total (take k (drop i es)) ≡ total (take (i + k) es)
-unfolding total
-total-take zero k es = zero-add _ ∙ ap (λ (n : ℕ). total (take n es)) (sym (zero-add k))
-total-take (suc i) k [] = zero-add _ ∙ ap total (take-all k [] (omega arith)) ∙ sym (ap total (take-all (suc i + k) [] (omega arith)))
-total-take (suc i) k (e ∷ es) =
-    let ih = total-take i k es in
-    add-assoc (lasts e) _ _ ∙ ap (λ (n : ℕ). lasts e + n) ih ∙ ap (λ (n : ℕ). total (take n (e ∷ es))) (sym (suc-add i k))
 
 from-later : (es : List Event) (u e i k : ℕ) → until u e (heard (drop (suc k) (drop i es)) (total (take i es) + total (take (suc k) (drop i es)))) ≡ until u e (from-event es (i + suc k))
 from-later es u e i k =

@@ -8,7 +8,7 @@ use lib.Dec.{eqb, ltb}
 use lib.ListN.{length, getD, set, take, drop}
 use Rattle.std.specs.shelf.Lists.{sum}
 use Rattle.std.proofs.shelf.Lists.{drop-more, drop-all}
-use Rattle.std.proofs.shelf.Sums.{sumBy-more, sumBy-take-le}
+use Rattle.std.proofs.shelf.Sums.{sumBy-cons, sumBy-more, sumBy-drop-more, sumBy-take-le}
 use Rattle.std.proofs.shelf.Tests.{lt-ltb, le-ltb, eq-eqb, ne-eqb}
 use Rattle.score.specs.Music.{pick, places}
 use Rattle.score.proofs.Picks.{pick-true, pick-false}
@@ -83,3 +83,18 @@ silences-none i ps l q = ap silences (drop-more ps i 0 l) ∙ pick-false (eqb (g
 pub silences-all : (i : ℕ) (ps : List ℕ) → length ps ≤ i → silences (drop i ps) ≡ 0
 unfolding silences
 silences-all i ps h = ap silences (drop-all i ps h)
+
+-- and how long they are
+pub silent-more :
+    (i : ℕ) (ps ds : List ℕ) → i < length ps → i < length ds → getD ps i 0 ≡ places
+    → sum (take (silences (drop i ps)) (drop i ds)) ≡ getD ds i 0 + sum (take (silences (drop (i + 1) ps)) (drop (i + 1) ds))
+unfolding silences
+silent-more i ps ds l m q =
+    let e : silences (drop i ps) ≡ suc (silences (drop (i + 1) ps)) = ap silences (drop-more ps i 0 l) ∙ pick-true (eqb (getD ps i 0) places) _ _ (eq-eqb _ _ q) in
+    ap (λ (n : ℕ). sum (take n (drop i ds))) e ∙ ap (λ (xs : List ℕ). sum (take (suc (silences (drop (i + 1) ps))) xs)) (drop-more ds i 0 m) ∙ sumBy-cons (λ x. x) (getD ds i 0) (take (silences (drop (i + 1) ps)) (drop (i + 1) ds))
+
+pub silent-none : (i : ℕ) (ps ds : List ℕ) → silences (drop i ps) ≡ 0 → sum (take (silences (drop i ps)) (drop i ds)) ≡ 0
+silent-none i ps ds z = ap (λ (n : ℕ). sum (take n (drop i ds))) z
+
+pub rest-more : (i : ℕ) (ds : List ℕ) → i < length ds → sum (drop i ds) ≡ getD ds i 0 + sum (drop (i + 1) ds)
+rest-more i ds l = sumBy-drop-more (λ x. x) ds i 0 l

@@ -11,8 +11,13 @@ ghost use Rattle.memory.specs.Store.{limit-in, score-of};
 ghost use Rattle.memory.specs.Words.{Holds};
 ghost use Rattle.sounds.specs.Spans.{passed, note-ticks, ticks-from, silences, grain, marks};
 ghost use Rattle.sounds.specs.Scores.{sound-at, score-in, Laid, Ready, all-left};
+
+mod single;
+
 use keys::tone;
 use score::Sound;
+pub use single::Notes;
+pub use single::heard;
 use voices::Regions;
 use voices::regions_of;
 use wire::write_sound;
