@@ -12,3 +12,4 @@ pub mod Edited
 pub mod Left
 pub mod Fields
 pub mod Enough
+pub mod Opened

@@ -68,14 +68,20 @@ lengths-from w = alterations-from w + limit-in w
 
 -- Which calls can be done, and whether notes may need signs, is a stage's and not in the words; words hold a score at every stage alike, and are
 -- read as those of the last.
+abbrev pub limits-at : (ℕ → Bool) → Bool → ℕ → ℕ → Limits
+limits-at can signed v n = record { calls-can = can; signs = signed; voices = v; events = n }
+
 abbrev pub limits-by : (ℕ → Bool) → Bool → List ℕ → Limits
-limits-by can signed w = record { calls-can = can; signs = signed; voices = voices-in w; events = limit-in w }
+limits-by can signed w = limits-at can signed (voices-in w) (limit-in w)
 
 abbrev pub limits-of : List ℕ → Limits
 limits-of = limits-by whole true
 
+abbrev pub layout-at : ℕ → ℕ → Layout
+layout-at k b = record { in-key = k; bar-long = b }
+
 abbrev pub layout-of : List ℕ → Layout
-layout-of w = record { in-key = getD w 0 0; bar-long = getD w 1 0 }
+layout-of w = layout-at (getD w 0 0) (getD w 1 0)
 
 -- events dealt out to voices, so many to each
 unfoldable pub dealt : List ℕ → List Event → Score

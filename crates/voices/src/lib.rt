@@ -1,5 +1,5 @@
 //! Voices in lent words: where the events of a voice lie, how long it is, and the calls that put, cut and change events.
-ghost use mathlib.Core.Bool.{false};
+ghost use mathlib.Core.Bool.{true, false};
 ghost use mathlib.Core.Path.{_≡_};
 ghost use Prim.Native.Nat.{_+_, _-_, _^_, _<_, _≤_};
 ghost use lib.ListN.{length, getD, take};
@@ -7,9 +7,10 @@ ghost use Rattle.std.specs.Options.{Cases as BySome, mapped};
 ghost use Rattle.std.specs.shelf.Lists.{sum};
 ghost use Rattle.score.specs.Meaning.{event-meant};
 ghost use Rattle.score.specs.Music.{length-end, lasts, total, fine, fine-length};
-ghost use Rattle.score.specs.Calls.{all-events, ticks-end, put as put-call, cut as cut-call, change as change-call, how-long, voice as voice-of-score};
+ghost use Rattle.score.specs.Calls.{empty-voices, all-events, ticks-end, put as put-call, cut as cut-call, change as change-call, how-long, voice as voice-of-score};
+ghost use Rattle.score.specs.Promise.{Good-layout, Good-limits, whole};
 ghost use Rattle.laws.specs.Rows.{event-of};
-ghost use Rattle.memory.specs.Store.{stands, alters, voices-in, limit-in, places-from, alterations-from, lengths-from, score-of};
+ghost use Rattle.memory.specs.Store.{words-asked, stands, alters, stored, limits-at, layout-at, voices-in, limit-in, places-from, alterations-from, lengths-from, score-of};
 ghost use Rattle.memory.specs.Words.{Holds, Spans, answer-at, next-words};
 ghost use Rattle.memory.specs.Moves.{with-event, without-event, with-other};
 ghost use Rattle.voices.specs.Rows.{Row-of};
@@ -22,7 +23,11 @@ use moves::remove_at;
 use score::Event;
 use score::Refusal;
 
-/// The header's words for how many voices there are and how many events there may be; behind it is the count of the first voice.
+/// The words of the header: key, bar's length, how many voices there are and how many events there may be. Behind it are the voices' counts.
+const KEY: usize = 0;
+
+const BAR: usize = 1;
+
 const VOICES: usize = 2;
 
 const LIMIT: usize = 3;
@@ -41,6 +46,21 @@ const TICKS_END: u32 = 1 << 24;
 pub struct Span {
     pub begin: usize,
     pub count: usize,
+}
+
+/// Lays out a score of empty voices in words that are as many as are asked for.
+pub fn lay_out(words: &mut [u32], key: u32, bar: u32, voices: u32, limit: u32)
+    requires layout { ⌜ Good-layout (layout-at key bar) ⌝ }
+    requires limits { ⌜ Good-limits (limits-at whole true voices limit) ⌝ }
+    requires size { ⌜ length (now words) ≡ words-asked voices limit ⌝ }
+    ensures left { λ _. ⌜ now (words .exit) ≡ stored (limits-at whole true voices limit) (layout-at key bar) (empty-voices voices) ⌝ }
+    ensures holds { λ _. ⌜ Holds (now (words .exit)) ⌝ }
+{
+    words.fill(0);
+    words[KEY] = key;
+    words[BAR] = bar;
+    words[VOICES] = voices;
+    words[LIMIT] = limit;
 }
 
 /// The sum of some words.
