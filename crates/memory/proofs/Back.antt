@@ -2,17 +2,17 @@
 use mathlib.Core.Path.{_≡_, refl, sym, ap, _∙_}
 use mathlib.Core.Bool.{true}
 use mathlib.Core.List.{List, [], _∷_, _++_, map}
-use Prim.Native.Nat.{ℕ, _+_, _-_, _*_, _≤_, _<_}
+use Prim.Native.Nat.{ℕ, _+_, _-_, _*_, _≤_}
 use native.Mathlib.Omega.{arith}
 use lib.Dec.{eqb}
 use lib.ListN.{length, take, drop, replicate}
 use Rattle.std.proofs.shelf.Lists.{append-assoc, length-append, length-replicate, length-map, take-at, drop-at, drop-drop}
 use Rattle.std.proofs.shelf.Tests.{and-parts, ne-eqb}
 use Rattle.score.specs.Music.{Event, note, silence, lasts, fine, all-fine, places}
-use Rattle.score.specs.Calls.{Limits, Layout, Score}
+use Rattle.score.specs.Calls.{Score}
 use Rattle.score.proofs.Picks.{pick-false}
 use Rattle.laws.specs.Rows.{event-of, voice-of}
-use Rattle.memory.specs.Store.{stands, alters, flat, counts, ticks, padded, laid, stored, dealt, parted, score-of, Kept}
+use Rattle.memory.specs.Store.{stands, alters, flat, counts, ticks, padded, laid, stored, dealt, parted}
 use Rattle.memory.specs.Owed.{Score-back}
 use Rattle.memory.proofs.Scores.{fine-place, fine-flat, length-flat}
 

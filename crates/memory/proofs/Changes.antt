@@ -4,14 +4,14 @@ use mathlib.Core.Bool.{true, false, _&&_}
 use mathlib.Core.List.{List, [], _∷_, _++_}
 use Prim.Native.Nat.{ℕ, zero, suc, _+_, _-_, _≤_, _<_}
 use native.Mathlib.Omega.{arith}
-use lib.Dec.{leb, ltb}
+use lib.Dec.{ltb}
 use lib.ListN.{length, getD, set, take, drop}
 use Rattle.std.specs.shelf.Lists.{sumBy, inserted, removed}
-use Rattle.std.proofs.shelf.Lists.{append-assoc, length-append, length-set, length-push, map-set, set-getD, take-at, drop-at, take-append-drop, drop-more, set-split, set-append-left, set-append-right, length-take-le}
+use Rattle.std.proofs.shelf.Lists.{append-assoc, length-append, length-set, length-push, map-set, take-at, drop-at, take-append-drop, drop-more, set-split, set-append-left, set-append-right, length-take-le}
 use Rattle.std.proofs.shelf.Edits.{length-inserted, length-removed}
 use Rattle.std.proofs.shelf.Sums.{sumBy-set}
 use Rattle.std.proofs.shelf.Tests.{and-parts}
-use Rattle.score.specs.Music.{Event, silence, lasts, total}
+use Rattle.score.specs.Music.{Event, lasts, total}
 use Rattle.score.specs.Calls.{put, cut, change, Score, voice, all-events, none-too-long, ticks-end, changed}
 use Rattle.laws.proofs.Events.{total-++}
 use Rattle.memory.specs.Store.{flat, counts, ticks}

@@ -9,7 +9,7 @@ use Rattle.std.proofs.shelf.Lists.{append-assoc, length-append, length-map, len
 use Rattle.std.proofs.shelf.Edits.{length-inserted, length-removed}
 use Rattle.score.specs.Music.{Event, lasts, total}
 use Rattle.score.specs.Calls.{put, cut, change, Limits, Layout, Score, voice, all-events, changed}
-use Rattle.memory.specs.Store.{stands, alters, flat, counts, ticks, padded, laid, stored, Kept}
+use Rattle.memory.specs.Store.{stands, alters, flat, counts, ticks, padded, stored, Kept}
 use Rattle.memory.specs.Moves.{shifted, closed, rows-in, rows-out, rows-set}
 use Rattle.memory.proofs.Scores.{length-flat, voice-le}
 use Rattle.memory.proofs.Back.{length-padded}

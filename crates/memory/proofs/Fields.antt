@@ -1,17 +1,17 @@
 -- Every answer that a score can give fits its fields. Assumes nothing.
-use mathlib.Core.Path.{_≡_, refl, sym, ap, subst, _∙_}
+use mathlib.Core.Path.{_≡_, refl}
 use mathlib.Core.Bool.{Bool, true, false, _&&_}
 use mathlib.Core.List.{List, [], _∷_, _++_}
-use Prim.Native.Nat.{ℕ, zero, suc, _+_, _*_, _/_, _%_, _≤_, _<_}
+use Prim.Native.Nat.{ℕ, zero, suc, _+_, _%_, _≤_, _<_}
 use native.Mathlib.Omega.{arith}
 use lib.Dec.{ltb, leb, eqb}
 use lib.ListN.{length, getD}
 use Rattle.std.proofs.shelf.Lists.{length-append}
 use Rattle.std.proofs.shelf.Tests.{and-parts, and-from, lt-ltb, ltb-true, leb-true, eqb-true}
 use Rattle.score.specs.Music.{pick, Event, note, silence, lasts, total, fine, all-fine, Heard, heard, tone, of-step, places, alterations, length-end}
-use Rattle.score.specs.Print.{Symbol, bar, head, rest, key, now, Chunk, value, line, chunks, has-line, heads, rests, print, printed, from-bar, so-many}
-use Rattle.score.specs.Calls.{Call, put, cut, change, show, heard-in, how-long, Answer, refused, Limits, Layout, Score, voice, all-events, none-too-long, ticks-end, most-bars, good-fields, fits, changed, begins, merged, together, turned-by, turned, told, place, answer}
-use Rattle.score.specs.Promise.{Good-layout, Good-limits, field, field-end, readable, readable-event}
+use Rattle.score.specs.Print.{Symbol, bar, head, rest, key, Chunk, value, line, chunks, heads, rests, print, printed, from-bar, so-many}
+use Rattle.score.specs.Calls.{Call, put, cut, change, show, heard-in, how-long, refused, Limits, Layout, Score, voice, all-events, none-too-long, ticks-end, most-bars, good-fields, fits, changed, begins, merged, together, turned-by, turned, told, place, answer}
+use Rattle.score.specs.Promise.{Good-layout, Good-limits, field, field-end, readable}
 use Rattle.score.proofs.Picks.{pick-both}
 use Rattle.laws.specs.Laying.{Lies-well}
 use Rattle.laws.proofs.Bars.{marks, lies-print}
@@ -21,7 +21,7 @@ use Rattle.laws.proofs.Turning.{not-turned}
 use Rattle.wire.specs.Bytes.{answer-bytes}
 use Rattle.wire.specs.Fits.{symbol-fits, sound-fits, all-fit, answer-fits}
 use Rattle.wire.proofs.Rows.{length-symbols, length-sounds}
-use Rattle.memory.specs.Store.{bytes-asked, stands, alters, all-fines, Kept}
+use Rattle.memory.specs.Store.{bytes-asked, all-fines, Kept}
 use Rattle.memory.specs.Owed.{Answers-fit, Answers-short}
 use Rattle.memory.proofs.Scores.{fine-fields, fine-place, fines-voice, short-voice}
 

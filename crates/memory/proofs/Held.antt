@@ -6,7 +6,7 @@ use Prim.Native.Nat.{ℕ, suc, _+_, _-_, _*_, _≤_, _<_}
 use native.Mathlib.Omega.{arith}
 use lib.ListN.{length, getD, take, drop, replicate}
 use Rattle.std.specs.shelf.Lists.{between, sum, sumBy}
-use Rattle.std.proofs.shelf.Lists.{append-assoc, append-nil, length-append, length-map, map-append, take-map, getD-map, getD-drop, getD-append-left, getD-append-right, getD-past, take-append-le, take-all, take-at, drop-at, drop-drop}
+use Rattle.std.proofs.shelf.Lists.{append-assoc, append-nil, length-map, map-append, take-map, getD-map, getD-drop, getD-append-left, getD-append-right, getD-past, take-append-le, take-all, take-at, drop-at, drop-drop}
 use Rattle.std.proofs.shelf.Sums.{sum-map, sumBy-cons, sumBy-take-le}
 use Rattle.score.specs.Music.{Event, silence, lasts, total, fine, all-fine, places, alterations, length-end}
 use Rattle.score.specs.Calls.{Limits, Layout, Score, voice, all-events}

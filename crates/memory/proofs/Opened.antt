@@ -1,9 +1,9 @@
 -- Words that hold a score of empty voices: zeros behind a header. Assumes nothing.
 use mathlib.Core.Path.{_≡_, refl, sym, ap, _∙_}
 use mathlib.Core.List.{List, [], _∷_, _++_}
-use Prim.Native.Nat.{ℕ, zero, suc, _+_, _-_, _*_}
+use Prim.Native.Nat.{ℕ, zero, suc, _+_, _-_}
 use native.Mathlib.Omega.{arith}
-use lib.ListN.{length, set, replicate}
+use lib.ListN.{set, replicate}
 use Rattle.std.proofs.shelf.Lists.{append-nil, replicate-append-replicate}
 use Rattle.score.specs.Music.{total}
 use Rattle.score.specs.Calls.{Limits, Layout, empty-voices}

@@ -1,20 +1,16 @@
 -- What becomes of a put, a cut, a change and a question, by what is found in the score. Assumes nothing.
-use mathlib.Core.Path.{_≡_, refl, sym, ap, subst, _∙_}
-use mathlib.Core.Logic.{_⊎_, inl, inr}
+use mathlib.Core.Path.{_≡_, refl, sym, ap, _∙_}
 use mathlib.Core.Bool.{Bool, true, false, _&&_}
-use mathlib.Core.List.{List, [], _∷_, _++_}
-use Prim.Native.Nat.{ℕ, zero, suc, _+_, _-_, _≤_, _<_}
+use mathlib.Core.List.{List}
+use Prim.Native.Nat.{ℕ, _+_, _-_, _≤_, _<_}
 use native.Mathlib.Omega.{arith}
 use lib.Dec.{eqb, leb, ltb}
-use lib.ListN.{length, getD, set, take, drop}
+use lib.ListN.{length, getD}
 use Rattle.std.specs.shelf.Lists.{removed}
-use Rattle.std.proofs.shelf.Lists.{length-append, length-take, length-drop, length-set, take-append-drop, drop-more, set-split}
-use Rattle.std.proofs.shelf.Sums.{sumBy-set}
-use Rattle.std.proofs.shelf.Tests.{and-parts, and-from, and-left, and-right, lt-ltb, le-ltb, ltb-true, leb-true, le-leb, lt-leb, eq-eqb, ne-eqb}
+use Rattle.std.proofs.shelf.Tests.{and-from, and-left, and-right, lt-ltb, le-ltb, ltb-true, leb-true, le-leb, lt-leb, eq-eqb, ne-eqb}
 use Rattle.score.specs.Music.{pick, Event, note, silence, fine, lasts, total}
-use Rattle.score.specs.Calls.{Call, put, cut, change, show, heard-in, how-long, most-bars, widest-span, refused, Limits, Layout, Score, voice, all-events, none-too-long, ticks-end, call-number, good-fields, good-call, fits, turned-by, turned, changed, told, place}
+use Rattle.score.specs.Calls.{Call, put, cut, change, show, heard-in, how-long, most-bars, widest-span, refused, Score, voice, all-events, none-too-long, ticks-end, call-number, good-fields, good-call, fits, turned-by, turned, changed, told, place}
 use Rattle.score.proofs.Picks.{pick-true, pick-false}
-use Rattle.laws.proofs.Events.{total-++}
 use Rattle.memory.specs.Store.{stored, voices-in, limit-in, limits-of, layout-of, score-of}
 use Rattle.memory.specs.Words.{Holds, turned-by-stage, turned-at, answer-by, answer-at, words-by, next-words}
 use Rattle.memory.proofs.Scores.{short-voice}

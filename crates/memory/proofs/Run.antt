@@ -1,6 +1,6 @@
 -- What a score keeps over calls, and the engraver over a run of them. Assumes nothing.
 use mathlib.Core.Path.{_≡_, refl, sym, ap, subst, _∙_}
-use mathlib.Core.Bool.{Bool, true, false, _&&_}
+use mathlib.Core.Bool.{Bool, true}
 use mathlib.Core.List.{List, [], _∷_, _++_}
 use Prim.Native.Nat.{ℕ, zero, suc, _<_}
 use native.Mathlib.Omega.{arith}
@@ -8,8 +8,8 @@ use lib.Dec.{eqb, leb}
 use lib.ListN.{length, set, take, drop}
 use Rattle.std.proofs.shelf.Lists.{length-set}
 use Rattle.std.proofs.shelf.Tests.{and-parts, and-from, eqb-true, leb-true}
-use Rattle.score.specs.Music.{pick, Event, total, fine, all-fine}
-use Rattle.score.specs.Calls.{Call, put, cut, change, show, heard-in, how-long, Answer, Limits, Layout, Score, voice, all-events, none-too-long, empty-voices, good-fields, good-call, fits, changed, turned-by, turned, after, answer, answers, ran}
+use Rattle.score.specs.Music.{Event, total, fine, all-fine}
+use Rattle.score.specs.Calls.{Call, put, cut, change, show, heard-in, how-long, Limits, Layout, Score, voice, all-events, none-too-long, empty-voices, good-fields, changed, turned, after, answer, answers, ran}
 use Rattle.score.specs.Promise.{Memory, Engraver, told-by, left-by, Right, Refusal-keeps}
 use Rattle.score.proofs.Picks.{pick-both}
 use Rattle.laws.proofs.Turning.{not-turned, after-turned}

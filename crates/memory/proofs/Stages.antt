@@ -3,14 +3,13 @@ use mathlib.Core.Path.{_≡_, refl, sym, ap, _∙_}
 use mathlib.Core.Bool.{Bool, true, false, _&&_}
 use mathlib.Core.List.{List, [], _∷_}
 use Prim.Native.Nat.{ℕ}
-use native.Mathlib.Omega.{arith}
 use lib.Dec.{eqb}
 use Rattle.std.proofs.shelf.Tests.{and-left}
 use Rattle.score.specs.Music.{pick, Event, note, silence, fine}
-use Rattle.score.specs.Calls.{Call, put, cut, change, show, heard-in, how-long, refused, Limits, Layout, Score, call-number, good-fields, good-call, in-stage, fits, turned-by, turned, changed, place, told, after, answer}
+use Rattle.score.specs.Calls.{Call, put, cut, change, show, heard-in, how-long, refused, Limits, Layout, Score, call-number, good-fields, good-call, in-stage, fits, turned-by, turned, changed, place, told}
 use Rattle.score.proofs.Picks.{pick-false}
 use Rattle.memory.specs.Store.{laid, stored, limits-by, limits-of, layout-of, score-of}
-use Rattle.memory.specs.Words.{Holds, event-in, stage-can, turned-by-stage, answer-by, answer-at, words-by, next-words}
+use Rattle.memory.specs.Words.{Holds, event-in, stage-can, answer-by, answer-at, words-by, next-words}
 
 -- what is stored does not hang on the stage
 pub stored-alike : (l m : Limits) (y : Layout) (s : Score) → l .voices ≡ m .voices → l .events ≡ m .events → stored l y s ≡ stored m y s

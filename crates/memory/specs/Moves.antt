@@ -1,5 +1,5 @@
 -- One word comes in among others, or goes out. Assumes nothing: these are definitions.
-use mathlib.Core.List.{List, [], _∷_, _++_}
+use mathlib.Core.List.{List, _∷_, _++_}
 use Prim.Native.Nat.{ℕ, suc, _+_, _-_}
 use lib.ListN.{getD, set, take, drop}
 use Rattle.memory.specs.Store.{voices-in, limit-in, places-from}

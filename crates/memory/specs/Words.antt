@@ -8,7 +8,7 @@ use lib.ListN.{length, take, drop, replicate}
 use Rattle.score.specs.Music.{Event, note, silence}
 use Rattle.score.specs.Print.{key}
 use Rattle.score.specs.Calls.{Call, put, cut, change, show, heard-in, how-long, Answer, voice, all-events, empty-voices, turned, after, answer}
-use Rattle.score.specs.Promise.{Good-layout, Memory, Engraver, whole}
+use Rattle.score.specs.Promise.{Good-layout, Engraver, whole}
 use Rattle.wire.specs.Bytes.{answer-bytes, written}
 use Rattle.laws.specs.Rows.{voice-of}
 use Rattle.memory.specs.Store.{words-asked, bytes-asked, stored, voices-in, limit-in, places-from, alterations-from, lengths-from, limits-by, limits-of, layout-of, score-of, Kept}

@@ -2,7 +2,7 @@
 ghost use mathlib.Core.Bool.{true, false};
 ghost use mathlib.Core.Path.{_≡_};
 ghost use Prim.Native.Nat.{_+_, _-_, _^_, _<_, _≤_};
-ghost use lib.ListN.{length, getD, take};
+ghost use lib.ListN.{length, getD, set, take};
 ghost use Rattle.std.specs.Options.{Cases as BySome, mapped};
 ghost use Rattle.std.specs.shelf.Lists.{sum};
 ghost use Rattle.score.specs.Meaning.{event-meant};
@@ -48,6 +48,17 @@ pub struct Span {
     pub count: usize,
 }
 
+/// Writes the header's words.
+fn write_header(words: &mut [u32], key: u32, bar: u32, voices: u32, limit: u32)
+    requires { ⌜ 4 ≤ length (now words) ⌝ }
+    ensures { λ _. ⌜ now (words .exit) ≡ set (set (set (set (now (words .entry)) 0 key) 1 bar) 2 voices) 3 limit ⌝ }
+{
+    words[KEY] = key;
+    words[BAR] = bar;
+    words[VOICES] = voices;
+    words[LIMIT] = limit;
+}
+
 /// Lays out a score of empty voices in words that are as many as are asked for.
 pub fn lay_out(words: &mut [u32], key: u32, bar: u32, voices: u32, limit: u32)
     requires layout { ⌜ Good-layout (layout-at key bar) ⌝ }
@@ -57,10 +68,7 @@ pub fn lay_out(words: &mut [u32], key: u32, bar: u32, voices: u32, limit: u32)
     ensures holds { λ _. ⌜ Holds (now (words .exit)) ⌝ }
 {
     words.fill(0);
-    words[KEY] = key;
-    words[BAR] = bar;
-    words[VOICES] = voices;
-    words[LIMIT] = limit;
+    write_header(words, key, bar, voices, limit);
 }
 
 /// The sum of some words.
@@ -363,8 +371,7 @@ fn length_at(words: &[u32], at: usize) -> u32
     requires { ⌜ Holds (now words) ⌝ ∗ ⌜ at < limit-in (now words) ⌝ }
     ensures { λ r. ⌜ r ≡ getD (now (words .entry)) (lengths-from (now (words .entry)) + at) 0 ⌝ }
 {
-    let regions = regions_of(words);
-    words[regions.lengths + at]
+    words[regions_of(words).lengths + at]
 }
 
 /// The event at a place goes out of each region, from a voice that is then so many ticks long.
@@ -436,4 +443,35 @@ pub fn change(words: &mut [u32], voice: u32, index: u32, event: Event) -> Result
     };
     set_event(words, voice as usize, at, ticks, row);
     Ok(())
+}
+
+#[cfg(test)]
+mod tests {
+    use super::*;
+    use score::RefusalDebug;
+    use score::RefusalPartialEq;
+    use std::test::*;
+
+    // The words after each call, of two voices and at most two events.
+    #[test]
+    fn calls_leave_words() -> Result<(), Fail> {
+        let c = Event::Note {
+            place: 28,
+            alteration: 2,
+            length: 48,
+        };
+        let silence = Event::Silence { length: 96 };
+        let mut words = [1; 14];
+        lay_out(&mut words, 7, 192, 2, 2);
+        check_eq(words, [7, 192, 2, 2, 0, 0, 0, 0, 0, 0, 0, 0, 0, 0])?;
+        check_eq(put(&mut words, 1, 0, c), Ok(()))?;
+        check_eq(put(&mut words, 0, 0, silence), Ok(()))?;
+        check_eq(words, [7, 192, 2, 2, 1, 1, 96, 48, 70, 28, 0, 2, 96, 48])?;
+        check_eq(put(&mut words, 0, 1, c), Err(Refusal::Full))?;
+        check_eq(change(&mut words, 1, 0, silence), Ok(()))?;
+        check_eq(how_long(&words, 1), Ok(96))?;
+        check_eq(cut(&mut words, 0, 0), Ok(()))?;
+        check_eq(cut(&mut words, 0, 0), Err(Refusal::NoEvent(0)))?;
+        check_eq(words, [7, 192, 2, 2, 0, 1, 0, 96, 70, 0, 0, 0, 96, 0])
+    }
 }

@@ -5,7 +5,7 @@ use Prim.Native.Nat.{ℕ, _+_, _-_, _≤_, _<_}
 use native.Mathlib.Omega.{arith}
 use lib.ListN.{length, getD, take}
 use Rattle.score.specs.Music.{Event, silence, lasts, total}
-use Rattle.score.specs.Calls.{change, all-events, voice, ticks-end, place, told}
+use Rattle.score.specs.Calls.{change, all-events, voice, place, told}
 use Rattle.score.specs.Meaning.{event-meant}
 use Rattle.memory.specs.Store.{score-of}
 use Rattle.memory.specs.Words.{Holds, next-words}

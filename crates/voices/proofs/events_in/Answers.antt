@@ -1,6 +1,5 @@
 -- All events are those before the end of the last voice.
 use mathlib.Core.Path.{_∙_}
-use native.Mathlib.Omega.{arith}
 use Rattle.memory.proofs.Held.{all-before}
 use Rattle.voices.proofs.events_in.Needs as need
 

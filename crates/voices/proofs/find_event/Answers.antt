@@ -3,7 +3,7 @@ use mathlib.Core.Path.{_≡_, sym, ap, _∙_}
 use mathlib.Core.List.{List}
 use Prim.Native.Nat.{ℕ, _<_}
 use native.Mathlib.Omega.{arith}
-use lib.ListN.{length}
+use lib.ListN.{length, getD}
 use Rattle.std.proofs.shelf.Tests.{lt-ltb, le-ltb}
 use Rattle.std.specs.Options.{mapped}
 use Rattle.std.specs.declared.option.Option.the-variants.{Some}
@@ -12,6 +12,7 @@ use Rattle.score.specs.Calls.{voice}
 use Rattle.score.specs.Meaning.{event-meant}
 use Rattle.score.proofs.Picks.{pick-true, pick-false}
 use Rattle.memory.specs.Store.{score-of}
+use Rattle.voices.specs.Said.{event-at}
 use Rattle.memory.proofs.Held.{no-voice, place-within, event-there}
 use Rattle.voices.proofs.find_event.Needs as need
 
@@ -35,5 +36,7 @@ returns c =
     let s = c .in-Continue-span .ensures tt in
     let a = c .in-Continue-at .ensures tt in
     let li : c .args .index < length (voice (score-of w) (c .args .voice)) = omega (arith, s .counts, a .0) in
-    ap Some (c .event-from .ensures ∙ event-there w (c .pre) (c .args .voice) (c .args .index) (silence 0) (s .there) li (c .in-Continue-at .at) (omega (arith, a .1, s .begins)))
-    ∙ sym (pick-true _ _ _ (lt-ltb (c .args .index) _ li))
+    let e = event-there w (c .pre) (c .args .voice) (c .args .index) (silence 0) (s .there) li (c .in-Continue-at .at) (omega (arith, a .1, s .begins)) in
+    let there : event-at (score-of w) (c .args .voice) (c .args .index) ≡ Some (getD (voice (score-of w) (c .args .voice)) (c .args .index) (silence 0)) =
+    pick-true _ _ _ (lt-ltb (c .args .index) _ li) in
+    cc

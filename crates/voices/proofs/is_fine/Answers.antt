@@ -1,5 +1,5 @@
 -- A field out of range is enough, and else the length decides.
-use mathlib.Core.Path.{_≡_, sym, ap, _∙_}
+use mathlib.Core.Path.{sym, ap, _∙_}
 use Rattle.score.specs.Music.{fine}
 use Rattle.score.specs.Meaning.{event-meant}
 use Rattle.memory.proofs.Scores.{unfine-place, unfine-alteration, fine-by-length, fine-silence}

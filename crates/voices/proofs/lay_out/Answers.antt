@@ -1,7 +1,6 @@
 -- Zeros behind a header are empty voices.
 use mathlib.Core.Path.{_≡_, sym, ap, subst, _∙_}
 use mathlib.Core.Bool.{true}
-use mathlib.Core.List.{List}
 use Prim.Native.Nat.{ℕ}
 use lib.ListN.{length, set, replicate}
 use Rattle.score.specs.Calls.{Limits, Layout, empty-voices}
@@ -20,6 +19,7 @@ returns c =
     let l : Limits = limits-at whole true v n in
     let y : Layout = layout-at k b in
     let zeros : c .fill .last .self ≡ replicate (length (c .args .words .now)) 0 = c .fill .ensures .after (λ x h. h) in
-    let left : set (set (set (set (c .fill .last .self) 0 k) 1 b) 2 v) 3 n ≡ stored l y (empty-voices v) =
-    ap (λ w. set (set (set (set w 0 k) 1 b) 2 v) 3 n) zeros ∙ opened-is l y (length (c .args .words .now)) (c .pre .size) in
+    let laid = ap (λ w. set (set (set (set w 0 k) 1 b) 2 v) 3 n) zeros in
+    let opened = opened-is l y (length (c .args .words .now)) (c .pre .size) in
+    let left : c .write-header .last .words ≡ stored l y (empty-voices v) = cc in
     record { left = left; holds = subst Holds (sym left) (holds-opened l y (c .pre .limits) (c .pre .layout)) }

@@ -1,5 +1,5 @@
 -- The copy leaves a gap of one word, into which the word is written.
-use mathlib.Core.Path.{_≡_, ap, _∙_}
+use mathlib.Core.Path.{ap, _∙_}
 use lib.ListN.{set}
 use Rattle.memory.proofs.Moved.{shift-is}
 use Rattle.voices.proofs.moves.insert_at.Needs as need

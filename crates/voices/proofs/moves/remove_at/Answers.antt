@@ -1,5 +1,5 @@
 -- The copy closes the gap, and 0 is written where it left the last word twice.
-use mathlib.Core.Path.{_≡_, ap, _∙_}
+use mathlib.Core.Path.{ap, _∙_}
 use Prim.Native.Nat.{_-_}
 use lib.ListN.{set}
 use Rattle.memory.proofs.Moved.{close-is}
