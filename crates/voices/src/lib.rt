@@ -23,29 +23,51 @@ use moves::remove_at;
 use score::Event;
 use score::Refusal;
 
-/// The words of the header: key, bar's length, how many voices there are and how many events there may be. Behind it are the voices' counts.
-const KEY: usize = 0;
+/// The header's word for the key.
+pub const KEY: usize = 0;
 
-const BAR: usize = 1;
+/// The header's word for a bar's length.
+pub const BAR: usize = 1;
 
-const VOICES: usize = 2;
+/// The header's word for how many voices there are.
+pub const VOICES: usize = 2;
 
-const LIMIT: usize = 3;
+/// The header's word for how many events there may be.
+pub const LIMIT: usize = 3;
 
-const COUNTS: usize = 4;
+/// Behind the header: the first voice's word for how many events it has.
+pub const COUNTS: usize = 4;
 
-/// The place that a silence's word has, behind those of notes; how many alterations there are; and the first length of a voice that is too long.
+/// How many places there are; a silence's word for its place is this one.
 const PLACES: u8 = 70;
 
+/// How many alterations there are.
 const ALTERATIONS: u8 = 5;
 
+/// How long no voice may be.
 const TICKS_END: u32 = 1 << 24;
+
+/// Where the regions of places, alterations and lengths begin.
+#[derive(Clone, Copy)]
+pub struct Regions {
+    pub places: usize,
+    pub alterations: usize,
+    pub lengths: usize,
+}
 
 /// Where the events of a voice lie in each of the three regions: so many words from a beginning on.
 #[derive(Clone, Copy)]
 pub struct Span {
     pub begin: usize,
     pub count: usize,
+}
+
+/// An event as it lies in the regions.
+#[derive(Clone, Copy)]
+struct Row {
+    place: u32,
+    alteration: u32,
+    length: u32,
 }
 
 /// Writes the header's words.
@@ -88,6 +110,15 @@ fn events_before(words: &[u32], voice: usize) -> usize
     sum_of(&words[COUNTS..COUNTS + voice]) as usize
 }
 
+/// How many events there are in all voices.
+fn events_in(words: &[u32]) -> usize
+    requires { ⌜ Holds (now words) ⌝ }
+    ensures value { λ r. ⌜ r ≡ all-events (score-of (now (words .entry))) ⌝ }
+    ensures small { λ r. ⌜ r ≤ limit-in (now (words .entry)) ⌝ }
+{
+    events_before(words, words[VOICES] as usize)
+}
+
 /// A voice's number as an index, if the voice is there.
 fn voice_index(words: &[u32], voice: u32) -> Option<usize>
     requires { ⌜ Holds (now words) ⌝ }
@@ -108,14 +139,6 @@ pub fn find_voice(words: &[u32], voice: u32) -> Option<Span>
     let begin = events_before(words, index);
     let count = words[COUNTS + index] as usize;
     Some(Span { begin, count })
-}
-
-/// Where the regions of places, alterations and lengths begin.
-#[derive(Clone, Copy)]
-pub struct Regions {
-    pub places: usize,
-    pub alterations: usize,
-    pub lengths: usize,
 }
 
 /// Where the regions begin.
@@ -200,6 +223,14 @@ fn event_from(words: &[u32], at: usize) -> Event
     }
 }
 
+/// How long the event is whose words lie at a place in each region.
+fn length_at(words: &[u32], at: usize) -> u32
+    requires { ⌜ Holds (now words) ⌝ ∗ ⌜ at < limit-in (now words) ⌝ }
+    ensures { λ r. ⌜ r ≡ getD (now (words .entry)) (lengths-from (now (words .entry)) + at) 0 ⌝ }
+{
+    words[regions_of(words).lengths + at]
+}
+
 /// The event of a voice at an index, if it is there.
 pub fn find_event(words: &[u32], voice: u32, index: u32) -> Option<Event>
     requires { ⌜ Holds (now words) ⌝ }
@@ -239,14 +270,6 @@ pub fn is_fine(event: Event) -> bool
     }
 }
 
-/// An event as it lies in the regions.
-#[derive(Clone, Copy)]
-struct Row {
-    place: u32,
-    alteration: u32,
-    length: u32,
-}
-
 /// The words of an event.
 fn row_of(event: Event) -> Row
     ensures place { λ r. ⌜ r .place ≡ stands (event-meant event) ⌝ }
@@ -280,15 +303,6 @@ fn find_row(event: Event) -> Option<Row>
         return None;
     }
     Some(row_of(event))
-}
-
-/// How many events there are in all voices.
-fn events_in(words: &[u32]) -> usize
-    requires { ⌜ Holds (now words) ⌝ }
-    ensures value { λ r. ⌜ r ≡ all-events (score-of (now (words .entry))) ⌝ }
-    ensures small { λ r. ⌜ r ≤ limit-in (now (words .entry)) ⌝ }
-{
-    events_before(words, words[VOICES] as usize)
 }
 
 /// How many events there are, if there may be one more.
@@ -364,14 +378,6 @@ pub fn put(words: &mut [u32], voice: u32, index: u32, event: Event) -> Result<()
     };
     insert_event(words, voice as usize, used, at, ticks, row);
     Ok(())
-}
-
-/// How long the event is whose words lie at a place in each region.
-fn length_at(words: &[u32], at: usize) -> u32
-    requires { ⌜ Holds (now words) ⌝ ∗ ⌜ at < limit-in (now words) ⌝ }
-    ensures { λ r. ⌜ r ≡ getD (now (words .entry)) (lengths-from (now (words .entry)) + at) 0 ⌝ }
-{
-    words[regions_of(words).lengths + at]
 }
 
 /// The event at a place goes out of each region, from a voice that is then so many ticks long.
