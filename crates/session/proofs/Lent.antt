@@ -18,7 +18,7 @@ taken W R h =
     let n : limit-in (W ++ R) ≡ limit-in W = getD-append-left W R 0 3 (omega arith) in
     ap (λ x. words-asked x (limit-in (W ++ R))) v ∙ ap (λ x. words-asked (voices-in W) x) n ∙ sym (h .size)
 
-room : (W R : List ℕ) → Holds W → bytes-taken (W ++ R) ≡ bytes-taken W
+pub room : (W R : List ℕ) → Holds W → bytes-taken (W ++ R) ≡ bytes-taken W
 room W R h =
     let few : 3 < length W = omega (arith, h .size) in
     ap bytes-asked (getD-append-left W R 0 3 (omega arith))

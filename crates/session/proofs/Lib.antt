@@ -1,3 +1,6 @@
 mod Blank
 mod Lent
 mod Openings
+mod Saying
+mod Asking
+mod Answering

@@ -71,7 +71,7 @@ sized o s t words bytes e f =
       said = sym (pick-true _ _ _ (p .0) ∙ pick-true _ _ _ there);
     }
 
-room-stored : (l : Limits) (y : Layout) (s : Score) → bytes-taken (stored l y s) ≡ bytes-asked (l .events)
+pub room-stored : (l : Limits) (y : Layout) (s : Score) → bytes-taken (stored l y s) ≡ bytes-asked (l .events)
 unfolding stored
 room-stored l y s = refl
 

@@ -1,7 +1,7 @@
 -- Lent memory as a session keeps it: what opening leaves there, and what a call leaves there and is answered. Assumes nothing: these are definitions.
 use mathlib.Core.Path.{_≡_}
 use mathlib.Core.Bool.{Bool, true, false, _&&_}
-use mathlib.Core.List.{List}
+use mathlib.Core.List.{List, _++_}
 use Prim.Native.Nat.{ℕ, _%_, _≤_}
 use lib.Dec.{ltb, leb, eqb}
 use lib.ListN.{length, take, drop}
@@ -15,7 +15,7 @@ use Rattle.score.specs.Promise.{Memory, Engraver, whole}
 use Rattle.wire.specs.Bytes.{answer-bytes, written}
 use Rattle.wire.specs.ReadingCalls.{read-call}
 use Rattle.memory.specs.Store.{words-asked, bytes-asked, voices-in, limit-in}
-use Rattle.memory.specs.Words.{Holds, engraver-by}
+use Rattle.memory.specs.Words.{Holds, answer-at, engraver-by}
 use Rattle.session.specs.declared.Opening.{Opening}
 use Rattle.session.specs.declared.Sizes.{Sizes}
 
@@ -68,6 +68,11 @@ said-to m (Err a) = a
 abbrev pub left-in : Memory → Result Call Answer → Memory
 left-in m (Ok c) = engraver .next m c
 left-in m (Err a) = record { words = m .words; bytes = written (answer-bytes a) (m .bytes) }
+
+-- of words that hold a score, what a call is answered over the front of the bytes
+pub record Says (w b b′ : List ℕ) (c : Call) (r : ℕ) : Type 0 where
+  pub wrote : b′ ≡ answer-bytes (answer-at w c) ++ drop r b
+  pub many : r ≡ length (answer-bytes (answer-at w c))
 
 -- the words and bytes past what a score takes are as they were
 pub record Untouched (w b w′ b′ : List ℕ) : Type 0 where

@@ -3,15 +3,23 @@ ghost use mathlib.Core.Path.{_≡_};
 ghost use Prim.Native.Nat.{_≤_};
 ghost use mathlib.Core.Bool.{_&&_};
 ghost use lib.Dec.{leb};
-ghost use lib.ListN.{length};
+ghost use lib.ListN.{length, take};
 ghost use Rattle.std.specs.declared.option.Option.the-variants.{None, Some};
 ghost use Rattle.score.specs.Music.{pick};
 ghost use Rattle.std.specs.Results.{Cases};
 ghost use Rattle.score.specs.Calls.{empty-voices};
 ghost use Rattle.memory.specs.Store.{words-asked, bytes-asked, stored};
 ghost use Rattle.voices.specs.Said.{said-done};
-ghost use Rattle.session.specs.Session.{opens, sizes-of, open-answer, limits-for, layout-for, Opened, Unchanged};
+ghost use Rattle.session.specs.Promises.{Session-right, Session-keeps, Session-enough};
+ghost use Rattle.session.specs.Session.{opens, sizes-of, open-answer, limits-for, layout-for, words-taken, bytes-taken, Ready, Opened, Unchanged, Answered};
+ghost use Rattle.memory.specs.Words.{Holds};
 use score::Refusal;
+
+mod answers;
+
+use answers::answer;
+use wire::read_call;
+use wire::write_refused;
 
 /// What a score is opened with: its key, a bar's length in ticks, how many voices it has, and how many events there may be in all.
 #[derive(Clone, Copy)]
@@ -90,3 +98,47 @@ pub fn open(words: &mut [u32], bytes: &mut [u8], opening: Opening) -> Result<(),
     bytes[0..room].fill(0);
     Ok(())
 }
+
+/// How many of the lent words and bytes the score that lies there takes.
+fn taken(words: &[u32]) -> Sizes
+    requires { ⌜ Holds (take (words-taken (now words)) (now words)) ⌝ ∗ ⌜ words-taken (now words) ≤ length (now words) ⌝ }
+    ensures words { λ r. ⌜ r .words ≡ words-taken (now (words .entry)) ⌝ }
+    ensures bytes { λ r. ⌜ r .bytes ≡ bytes-taken (now (words .entry)) ⌝ }
+{
+    let voices = words[2] as usize;
+    let events = words[3] as usize;
+    Sizes {
+        words: 4 + (2 * voices + 3 * events),
+        bytes: 8 * events + 262144,
+    }
+}
+
+/// Answers a call in bytes over the front of the lent bytes, and returns how long the answer is.
+pub fn call(words: &mut [u32], bytes: &mut [u8], input: &[u8]) -> usize
+    requires { ⌜ Ready (now words) (now bytes) ⌝ }
+    ensures { λ r. ⌜ Answered (now (words .entry)) (now (bytes .entry)) (now (input .entry)) (now (words .exit)) (now (bytes .exit)) r ⌝ }
+{
+    let Sizes {
+        words: asked,
+        bytes: room,
+    } = taken(words);
+    match read_call(input) {
+        Ok(call) => answer(&mut words[0..asked], &mut bytes[0..room], call),
+        Err(refusal) => write_refused(&mut bytes[0..room], refusal),
+    }
+}
+
+/// The session is right: for every list of calls its answers are those of the score as the calls left it, printed and heard anew.
+pub fn right()
+    ensures { λ _. ⌜ Session-right ⌝ }
+{}
+
+/// A call that is turned away leaves the words as they were.
+pub fn refusal_keeps()
+    ensures { λ _. ⌜ Session-keeps ⌝ }
+{}
+
+/// The memory that is asked for at opening is enough for ever.
+pub fn enough_memory()
+    ensures { λ _. ⌜ Session-enough ⌝ }
+{}
