@@ -9,6 +9,7 @@ ghost use Rattle.wire.specs.Reading.{symbol-of, sound-of, row-of, answer-of};
 ghost use Rattle.score.specs.Calls.{symbols, sounds};
 ghost use Rattle.std.specs.Of.String.{string-bytes};
 ghost use Rattle.text.specs.Spelling.{spelled-bytes};
+use crate::spelling::spell_refusal;
 use crate::spelling::spell_sounds;
 use crate::spelling::spell_symbols;
 use score::Sound;
@@ -63,7 +64,7 @@ pub fn spell_answer(heap: Global, bytes: &[u8], out: &mut String) -> Result<(), 
     };
     match said {
         Said::Done => write!(out, "done")?,
-        Said::Refused { number, place } => write!(out, "refused {number} at {place}")?,
+        Said::Refused { number, place } => spell_refusal(number, place as usize, out)?,
         Said::Symbols { count } => spell_symbols_in(heap, &bytes[5..], count, out)?,
         Said::Sounds { count } => spell_sounds_in(heap, &bytes[5..], count, out)?,
         Said::Number { number } => write!(out, "{number}")?,

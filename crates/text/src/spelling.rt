@@ -5,8 +5,9 @@ ghost use mathlib.Core.Path.{_≡_};
 ghost use denote.Ref.{now};
 ghost use Rattle.std.specs.Of.String.{string-bytes};
 ghost use Rattle.std.specs.Vec.{made};
+ghost use Rattle.score.specs.Calls.{refused};
 ghost use Rattle.score.specs.Meaning.{symbol-meant, sound-meant};
-ghost use Rattle.text.specs.Spelling.{letter, mark, spelled-symbol, spelled-sound, spelled-row, spelled-symbols, spelled-sounds};
+ghost use Rattle.text.specs.Spelling.{letter, mark, spelled-symbol, spelled-sound, spelled-row, spelled-symbols, spelled-sounds, spelled-answer};
 use score::Sound;
 use score::Symbol;
 use std::fmt;
@@ -111,4 +112,11 @@ pub fn spell_sounds(sounds: &[Sound], out: &mut String) -> fmt::Result
     ensures { λ r. ⌜ made r (λ _. string-bytes (now (out .exit)) ≡ string-bytes (now (out .entry)) ++ spelled-sounds (map sound-meant (now (sounds .entry)))) ⌝ }
 {
     spell_row(sounds, ", ", out)
+}
+
+/// Writes a refusal, as `refused 5 at 9`.
+pub fn spell_refusal(number: u8, place: usize, out: &mut String) -> fmt::Result
+    ensures { λ r. ⌜ made r (λ _. string-bytes (now (out .exit)) ≡ string-bytes (now (out .entry)) ++ spelled-answer (refused number place)) ⌝ }
+{
+    write!(out, "refused {number} at {place}")
 }
