@@ -132,7 +132,7 @@ few-bars (bar ∷ xs) (suc n) h = let ih = few-bars xs n (omega arith) in (ap (�
 few-bars (head p s v t ∷ xs) (suc n) h = let ih = few-bars xs (suc n) h in (ap (λ (r : List Symbol). head p s v t ∷ r) (ih .0), ih .1)
 few-bars (rest v ∷ xs) (suc n) h = let ih = few-bars xs (suc n) h in (ap (λ (r : List Symbol). rest v ∷ r) (ih .0), ih .1)
 
-abbrev Parted : ℕ → ℕ → ℕ → List Symbol → Type 0
+abbrev pub Parted : ℕ → ℕ → ℕ → List Symbol → Type 0
 Parted k b n xs = read-from k xs ≡ read-from k (so-many xs n) ++ later (n * b) (read-from k (from-bar n xs))
 
 parted-none : (k b : ℕ) (xs : List Symbol) → Parted k b 0 xs
@@ -154,10 +154,14 @@ parted-full k b n xs full l e =
     (ap (λ (t : ℕ). reads k (from-bar (suc n) xs) t (key k) nothing) (so-many-long b 0 xs n full l ∙ sym (zero-add (suc n * b)))
     ∙ read-later k (suc n * b) (from-bar (suc n) xs) 0 (key k) nothing)
 
-pub from-a-bar : From-a-bar
-from-a-bar k b zero es h b3 f e = parted-none k b (printed k b es)
-from-a-bar k b (suc n) es h b3 f e = go (cases-lt (lines (marks (printed k b es))) (suc n))
+-- symbols that lie well are read in two parts at each bar into which nothing is tied
+pub parted : (k b n : ℕ) (xs : List Symbol) → Lies-well b 0 (marks xs) → no-tie-over xs n ≡ true → Parted k b n xs
+parted k b zero xs full e = parted-none k b xs
+parted k b (suc n) xs full e = go (cases-lt (lines (marks xs)) (suc n))
   where
-    go : (lines (marks (printed k b es)) < suc n) ⊎ (suc n ≤ lines (marks (printed k b es))) → Parted k b (suc n) (printed k b es)
-    go (inl few) = parted-few k b (suc n) (printed k b es) few
-    go (inr enough) = parted-full k b n (printed k b es) (lies-print k b 0 (key k) es h b3 refl f) enough e
+    go : (lines (marks xs) < suc n) ⊎ (suc n ≤ lines (marks xs)) → Parted k b (suc n) xs
+    go (inl few) = parted-few k b (suc n) xs few
+    go (inr enough) = parted-full k b n xs full enough e
+
+pub from-a-bar : From-a-bar
+from-a-bar k b n es h b3 f e = parted k b n (printed k b es) (lies-print k b 0 (key k) es h b3 refl f) e

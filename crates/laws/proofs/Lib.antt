@@ -11,6 +11,7 @@ pub mod Walk
 pub mod Room
 pub mod Reading
 pub mod FromBar
+pub mod Shown
 pub mod Signs
 pub mod Staying
 pub mod Together

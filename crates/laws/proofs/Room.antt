@@ -31,7 +31,7 @@ lies-from b t (bar ∷ xs) (suc n) h f = lies-from b 0 xs n h (f .1)
 lies-from b t (head p s v i ∷ xs) n h f = lies-from b (t + v) xs n h (f .2)
 lies-from b t (rest v ∷ xs) n h f = lies-from b (t + v) xs n h (f .2)
 
-lies-shown : (k b from : ℕ) (es : List Event) → 0 < b → b % 3 ≡ 0 → all-fine es ≡ true → Lies-well b 0 (marks (from-bar from (printed k b es)))
+pub lies-shown : (k b from : ℕ) (es : List Event) → 0 < b → b % 3 ≡ 0 → all-fine es ≡ true → Lies-well b 0 (marks (from-bar from (printed k b es)))
 unfolding from-bar
 lies-shown k b zero es h b3 f = lies-print k b 0 (key k) es h b3 refl f
 lies-shown k b (suc n) es h b3 f = lies-from b 0 (printed k b es) n h (lies-print k b 0 (key k) es h b3 refl f)

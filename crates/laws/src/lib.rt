@@ -2,6 +2,7 @@
 //! for every voice, score and call, and the proof that it cites stands in `proofs/`. Code crates cite the lemmas there.
 ghost use Rattle.score.specs.Promise.{Reads-back, From-a-bar, Bars-full, Signs-needed, Fewest, Bars-stay, Bars-after};
 ghost use Rattle.laws.specs.Laying.{Comes-to, Lies-over-bars};
+ghost use Rattle.laws.specs.Shown.{Bars-heard};
 ghost use Rattle.score.specs.Promise.{Together-in-order, Nothing-lost, Turned-away, Undone};
 
 /// Who reads what is printed of a voice, in its key and with nothing else known, hears every note of the voice at its time, as long as it is and
@@ -13,6 +14,12 @@ pub fn reads_back()
 /// Who begins to read at a bar into which nothing is tied hears just what is heard from there on: with what the bars before bring, it is all.
 pub fn from_a_bar()
     ensures { λ _. ⌜ From-a-bar ⌝ }
+{}
+
+/// Who reads some bars alone hears just what begins in them, with the time counted from the first of them, if nothing is tied into that bar nor
+/// into the bar behind the last.
+pub fn bars_heard()
+    ensures { λ _. ⌜ Bars-heard ⌝ }
 {}
 
 /// What stands between two bar lines is as long as a bar, and what stands behind the last one is shorter.
