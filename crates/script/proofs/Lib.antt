@@ -1,2 +1,4 @@
+mod Answering
 mod Cuts
+mod Answered
 mod Promised

@@ -1,3 +1,4 @@
 pub mod Lines
 pub mod Script
 pub mod Promised
+pub mod Desk
