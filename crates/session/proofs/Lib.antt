@@ -4,3 +4,4 @@ mod Openings
 mod Saying
 mod Asking
 mod Answering
+mod Pages

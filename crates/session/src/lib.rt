@@ -8,10 +8,10 @@ ghost use Rattle.std.specs.declared.option.Option.the-variants.{None, Some};
 ghost use Rattle.score.specs.Music.{pick};
 ghost use Rattle.std.specs.Results.{Cases};
 ghost use Rattle.score.specs.Calls.{empty-voices};
-ghost use Rattle.memory.specs.Store.{words-asked, bytes-asked, stored};
+ghost use Rattle.memory.specs.Store.{words-asked, stored};
 ghost use Rattle.voices.specs.Said.{said-done};
-ghost use Rattle.session.specs.Promises.{Session-right, Session-keeps, Session-enough};
-ghost use Rattle.session.specs.Session.{opens, sizes-of, open-answer, limits-for, layout-for, words-taken, bytes-taken, Ready, Opened, Unchanged, Answered};
+ghost use Rattle.session.specs.Promises.{Session-right, Session-keeps, Session-enough, Whole-way};
+ghost use Rattle.session.specs.Session.{sizes-of, open-answer, limits-for, layout-for, words-taken, bytes-taken, Ready, Opened, Unchanged, Answered};
 ghost use Rattle.memory.specs.Words.{Holds};
 use score::Refusal;
 
@@ -141,4 +141,10 @@ pub fn refusal_keeps()
 /// The memory that is asked for at opening is enough for ever.
 pub fn enough_memory()
     ensures { λ _. ⌜ Session-enough ⌝ }
+{}
+
+/// The whole way: after every list of calls, who reads the bars that are shown of a voice hears just what is told of that voice for those bars, every
+/// note at its time, as long as it is, at its tone. It is asked only that nothing is tied into the first of these bars nor into the bar behind the last.
+pub fn whole_way()
+    ensures { λ _. ⌜ Whole-way ⌝ }
 {}
