@@ -36,12 +36,12 @@ pub fn write_call(out: &mut [u8], call: Call) -> usize
 }
 
 /// Writes a call's number, two fields and an event.
-fn write_placed(out: &mut [u8], kind: u8, voice: u32, index: u32, event: Event) -> usize
+fn write_placed(out: &mut [u8], number: u8, voice: u32, index: u32, event: Event) -> usize
     requires { ⌜ 14 ≤ length (now out) ⌝ }
-    ensures wrote { λ r. ⌜ now (out .exit) ≡ (kind ∷ (four voice ++ (four index ++ event-bytes (event-meant event)))) ++ drop r (now (out .entry)) ⌝ }
+    ensures wrote { λ r. ⌜ now (out .exit) ≡ (number ∷ (four voice ++ (four index ++ event-bytes (event-meant event)))) ++ drop r (now (out .entry)) ⌝ }
     ensures many { λ r. ⌜ r ≡ 14 ⌝ }
 {
-    let at = write_two(out, kind, voice, index);
+    let at = write_two(out, number, voice, index);
     at + write_event(&mut out[at..], event)
 }
 
@@ -70,27 +70,27 @@ fn write_event(out: &mut [u8], event: Event) -> usize
 }
 
 /// Writes a call's number and two fields.
-fn write_two(out: &mut [u8], kind: u8, first: u32, second: u32) -> usize
+fn write_two(out: &mut [u8], number: u8, first: u32, second: u32) -> usize
     requires { ⌜ 9 ≤ length (now out) ⌝ }
-    ensures wrote { λ r. ⌜ now (out .exit) ≡ (kind ∷ (four first ++ four second)) ++ drop r (now (out .entry)) ⌝ }
+    ensures wrote { λ r. ⌜ now (out .exit) ≡ (number ∷ (four first ++ four second)) ++ drop r (now (out .entry)) ⌝ }
     ensures many { λ r. ⌜ r ≡ 9 ⌝ }
 {
     let [a, b, c, d] = first.to_le_bytes();
     let [e, f, g, h] = second.to_le_bytes();
-    out[0..9].copy_from_slice(&[kind, a, b, c, d, e, f, g, h]);
+    out[0..9].copy_from_slice(&[number, a, b, c, d, e, f, g, h]);
     9
 }
 
 /// Writes a call's number and three fields.
-fn write_three(out: &mut [u8], kind: u8, first: u32, second: u32, third: u32) -> usize
+fn write_three(out: &mut [u8], number: u8, first: u32, second: u32, third: u32) -> usize
     requires { ⌜ 13 ≤ length (now out) ⌝ }
-    ensures wrote { λ r. ⌜ now (out .exit) ≡ (kind ∷ (four first ++ (four second ++ four third))) ++ drop r (now (out .entry)) ⌝ }
+    ensures wrote { λ r. ⌜ now (out .exit) ≡ (number ∷ (four first ++ (four second ++ four third))) ++ drop r (now (out .entry)) ⌝ }
     ensures many { λ r. ⌜ r ≡ 13 ⌝ }
 {
     let [a, b, c, d] = first.to_le_bytes();
     let [e, f, g, h] = second.to_le_bytes();
     let [i, j, k, l] = third.to_le_bytes();
-    out[0..13].copy_from_slice(&[kind, a, b, c, d, e, f, g, h, i, j, k, l]);
+    out[0..13].copy_from_slice(&[number, a, b, c, d, e, f, g, h, i, j, k, l]);
     13
 }
 
@@ -112,6 +112,7 @@ pub fn read_call(bytes: &[u8]) -> Result<Call, Refusal>
     }
 }
 
+/// A put, from what follows its number.
 fn read_put(fields: &[u8]) -> Result<Call, Refusal>
     ensures { λ r. ⌜ read-as call-meant r ≡ call-by 0 (now (fields .entry)) ⌝ }
 {
@@ -123,6 +124,7 @@ fn read_put(fields: &[u8]) -> Result<Call, Refusal>
     })
 }
 
+/// A cut, from what follows its number.
 fn read_cut(fields: &[u8]) -> Result<Call, Refusal>
     ensures { λ r. ⌜ read-as call-meant r ≡ call-by 1 (now (fields .entry)) ⌝ }
 {
@@ -130,6 +132,7 @@ fn read_cut(fields: &[u8]) -> Result<Call, Refusal>
     Ok(Call::Cut { voice, index })
 }
 
+/// A change, from what follows its number.
 fn read_change(fields: &[u8]) -> Result<Call, Refusal>
     ensures { λ r. ⌜ read-as call-meant r ≡ call-by 2 (now (fields .entry)) ⌝ }
 {
@@ -141,6 +144,7 @@ fn read_change(fields: &[u8]) -> Result<Call, Refusal>
     })
 }
 
+/// A show, from what follows its number.
 fn read_show(fields: &[u8]) -> Result<Call, Refusal>
     ensures { λ r. ⌜ read-as call-meant r ≡ call-by 3 (now (fields .entry)) ⌝ }
 {
@@ -148,6 +152,7 @@ fn read_show(fields: &[u8]) -> Result<Call, Refusal>
     Ok(Call::Show { voice, bar, count })
 }
 
+/// A heard in, from what follows its number.
 fn read_heard_in(fields: &[u8]) -> Result<Call, Refusal>
     ensures { λ r. ⌜ read-as call-meant r ≡ call-by 4 (now (fields .entry)) ⌝ }
 {
@@ -155,6 +160,7 @@ fn read_heard_in(fields: &[u8]) -> Result<Call, Refusal>
     Ok(Call::HeardIn { from, to })
 }
 
+/// A how long, from what follows its number.
 fn read_how_long(fields: &[u8]) -> Result<Call, Refusal>
     ensures { λ r. ⌜ read-as call-meant r ≡ call-by 5 (now (fields .entry)) ⌝ }
 {

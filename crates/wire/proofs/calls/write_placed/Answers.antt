@@ -11,7 +11,7 @@ pub returns : need.returns
 returns c =
     record {
       wrote =
-          put-next (c .write-two-at .last .out) (c .args .out .now) (c .args .kind ∷ (four (c .args .voice) ++ four (c .args .index)))
+          put-next (c .write-two-at .last .out) (c .args .out .now) (c .args .number ∷ (four (c .args .voice) ++ four (c .args .index)))
           (event-bytes (event-meant (c .args .event))) (c .write-event .last .out) (c .write-two-at .result) (c .write-event .result)
           (c .write-two-at .ensures .wrote) (sym (c .write-two-at .ensures .many)) (c .write-event .ensures .wrote);
       many = omega arith;
