@@ -1,4 +1,3 @@
-mod Blank
 mod Lent
 mod Openings
 mod Saying

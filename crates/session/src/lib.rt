@@ -7,7 +7,6 @@ ghost use lib.ListN.{length, take};
 ghost use Rattle.std.specs.declared.option.Option.the-variants.{None, Some};
 ghost use Rattle.score.specs.Music.{pick};
 ghost use Rattle.std.specs.Results.{Cases};
-ghost use Rattle.score.specs.Calls.{empty-voices};
 ghost use Rattle.memory.specs.Store.{words-asked, stored};
 ghost use Rattle.voices.specs.Said.{said-done};
 ghost use Rattle.session.specs.Promises.{Session-right, Session-keeps, Session-enough, Whole-way};
@@ -18,6 +17,7 @@ use score::Refusal;
 mod answers;
 
 use answers::answer;
+use voices::lay_out;
 use wire::read_call;
 use wire::write_refused;
 
@@ -67,18 +67,6 @@ impl Sizes {
     }
 }
 
-/// Writes a score without events over just the words that it asks for.
-fn lay_out(words: &mut [u32], opening: Opening)
-    requires { ⌜ length (now words) ≡ words-asked (opening .voices) (opening .events) ⌝ }
-    ensures { λ _. ⌜ now (words .exit) ≡ stored (limits-for opening) (layout-for opening) (empty-voices (opening .voices)) ⌝ }
-{
-    words.fill(0);
-    words[0] = opening.key;
-    words[1] = opening.bar;
-    words[2] = opening.voices;
-    words[3] = opening.events;
-}
-
 /// Opens a score without events in lent memory, or changes nothing.
 pub fn open(words: &mut [u32], bytes: &mut [u8], opening: Opening) -> Result<(), Refusal>
     ensures said { λ r. ⌜ said-done r ≡ open-answer opening (length (now (words .entry))) (length (now (bytes .entry))) ⌝ }
@@ -94,7 +82,13 @@ pub fn open(words: &mut [u32], bytes: &mut [u8], opening: Opening) -> Result<(),
         words: taken,
         bytes: room,
     } = asked;
-    lay_out(&mut words[0..taken], opening);
+    lay_out(
+        &mut words[0..taken],
+        opening.key,
+        opening.bar,
+        opening.voices,
+        opening.events,
+    );
     bytes[0..room].fill(0);
     Ok(())
 }
