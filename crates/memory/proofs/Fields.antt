@@ -165,7 +165,7 @@ few-begin v a b (h ∷ hs) =
     let r = few-begin v a b hs in
     pick-both (λ xs. length xs ≤ suc (length hs)) (leb a (h .start) && ltb (h .start) b) ((v, h) ∷ begins v a b hs) (begins v a b hs) (λ _. omega arith) (λ _. omega arith)
 
-length-merged : (n : ℕ) (xs ys : List (ℕ × Heard)) → length (merged n xs ys) ≡ length xs + length ys
+pub length-merged : (n : ℕ) (xs ys : List (ℕ × Heard)) → length (merged n xs ys) ≡ length xs + length ys
 unfolding merged
 length-merged zero xs ys = length-append xs ys
 length-merged (suc n) [] ys = omega arith

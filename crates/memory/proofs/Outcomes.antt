@@ -12,7 +12,7 @@ use Rattle.score.specs.Music.{pick, Event, note, silence, fine, lasts, total}
 use Rattle.score.specs.Calls.{Call, put, cut, change, show, heard-in, how-long, most-bars, widest-span, refused, Score, voice, all-events, none-too-long, ticks-end, call-number, good-fields, good-call, fits, turned-by, turned, changed, told, place}
 use Rattle.score.proofs.Picks.{pick-true, pick-false}
 use Rattle.memory.specs.Store.{stored, voices-in, limit-in, limits-of, layout-of, score-of}
-use Rattle.memory.specs.Words.{Holds, turned-by-stage, turned-at, answer-by, answer-at, words-by, next-words}
+use Rattle.memory.specs.Words.{Holds, turned-in, turned-at, answer-by, answer-at, words-by, next-words}
 use Rattle.memory.proofs.Scores.{short-voice}
 use Rattle.memory.proofs.Run.{kept-after}
 use Rattle.memory.proofs.Held.{holds-stored}
@@ -37,7 +37,7 @@ module _ (w : List ℕ) (h : Holds w) (c : Call) where
   holds-next = holds-stored (limits-of w) (layout-of w) _ (h .some-voices, h .few-voices, h .few-events) (h .good-layout) (kept-after (limits-of w) (layout-of w) (score-of w) c (h .kept))
 
   pub away : (n : ℕ) → turned-at w c ≡ n → 0 < n → Away w c n
-  unfolding words-by answer-by turned-by-stage
+  unfolding words-by answer-by turned-in
   away n e lt =
       let off : eqb (turned (limits-of w) (layout-of w) (score-of w) c) 0 ≡ false = ne-eqb _ 0 (λ z. omega (arith, e, z)) in
       record {
@@ -46,7 +46,7 @@ module _ (w : List ℕ) (h : Holds w) (c : Call) where
       }
 
   pub done : turned-at w c ≡ 0 → Done w c
-  unfolding words-by answer-by turned-by-stage
+  unfolding words-by answer-by turned-in
   done e =
       let on : eqb (turned (limits-of w) (layout-of w) (score-of w) c) 0 ≡ true = eq-eqb _ 0 e in
       record {
@@ -62,7 +62,7 @@ module _ (w : List ℕ) (h : Holds w) (c : Call) (fine-fields there found fits-i
     (et : turned-by (score-of w) c ≡ pick there (pick found 0 5) 4)
     (ef : there ≡ true → found ≡ true → fits (limits-of w) (changed (score-of w) c) ≡ fits-in) where
   turned-is : turned-at w c ≡ pick fine-fields (pick there (pick found (pick fits-in 0 6) 5) 4) 2
-  unfolding turned-by-stage
+  unfolding turned-in
   turned-is =
       ap (λ g. pick g (pick (eqb (turned-by (score-of w) c) 0) (pick (fits (limits-of w) (changed (score-of w) c)) 0 6) (turned-by (score-of w) c)) 2) eg
       ∙ (ap (λ t. pick fine-fields (pick (eqb t 0) (pick (fits (limits-of w) (changed (score-of w) c)) 0 6) t) 2) et

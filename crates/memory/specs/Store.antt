@@ -9,9 +9,13 @@ use Rattle.score.specs.Calls.{Limits, Layout, Score, all-events, none-too-long}
 use Rattle.score.specs.Promise.{whole}
 use Rattle.laws.specs.Rows.{voice-of}
 
+-- how many words the header has, which the counts of the voices follow
+abbrev pub counts-from : ℕ
+counts-from = 4
+
 -- how many words a score of so many voices and at most so many events takes, and how many bytes its longest answer
 abbrev pub words-asked : ℕ → ℕ → ℕ
-words-asked voices events = 4 + (2 * voices + 3 * events)
+words-asked voices events = counts-from + (2 * voices + 3 * events)
 
 abbrev pub bytes-asked : ℕ → ℕ
 bytes-asked events = 8 * events + 262144
@@ -50,15 +54,18 @@ laid n s rest =
 unfoldable pub stored : Limits → Layout → Score → List ℕ
 stored l y s = y .in-key ∷ (y .bar-long ∷ (l .voices ∷ (l .events ∷ laid (l .events) s [])))
 
--- and back: how many voices, how many events there may be in all, and where the three regions begin
+-- and back: how many voices, how many events there may be in all, and where the voices' ticks and the three regions begin
 abbrev pub voices-in : List ℕ → ℕ
 voices-in w = getD w 2 0
 
 abbrev pub limit-in : List ℕ → ℕ
 limit-in w = getD w 3 0
 
+abbrev pub ticks-from : List ℕ → ℕ
+ticks-from w = counts-from + voices-in w
+
 abbrev pub places-from : List ℕ → ℕ
-places-from w = 4 + 2 * voices-in w
+places-from w = counts-from + 2 * voices-in w
 
 abbrev pub alterations-from : List ℕ → ℕ
 alterations-from w = places-from w + limit-in w
@@ -93,7 +100,7 @@ unfoldable pub parted : ℕ → ℕ → List ℕ → Score
 parted k n w = dealt (take k w) (voice-of (take n (drop (2 * k) w)) (take n (drop (2 * k + n) w)) (take n (drop (2 * k + n + n) w)))
 
 abbrev pub score-of : List ℕ → Score
-score-of w = parted (voices-in w) (limit-in w) (drop 4 w)
+score-of w = parted (voices-in w) (limit-in w) (drop counts-from w)
 
 -- what every score has that calls led to: its number of voices, not too many events, no voice too long, and events that can be written
 unfoldable pub all-fines : Score → Bool

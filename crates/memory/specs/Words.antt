@@ -50,8 +50,8 @@ stage-can can signed k (heard-in a b) = can 4
 stage-can can signed k (how-long v) = can 5
 
 -- at a stage: the number by which a call is turned away or 0, what it is answered, and the words that it leaves
-unfoldable pub turned-by-stage : (ℕ → Bool) → Bool → List ℕ → Call → ℕ
-turned-by-stage can signed w c = turned (limits-by can signed w) (layout-of w) (score-of w) c
+unfoldable pub turned-in : (ℕ → Bool) → Bool → List ℕ → Call → ℕ
+turned-in can signed w c = turned (limits-by can signed w) (layout-of w) (score-of w) c
 
 unfoldable pub answer-by : (ℕ → Bool) → Bool → List ℕ → Call → Answer
 answer-by can signed w c = answer (limits-by can signed w) (layout-of w) (score-of w) c
@@ -61,7 +61,7 @@ words-by can signed w c = stored (limits-by can signed w) (layout-of w) (after (
 
 -- and at the last stage, where nothing is turned away that can be written
 abbrev pub turned-at : List ℕ → Call → ℕ
-turned-at = turned-by-stage whole true
+turned-at = turned-in whole true
 
 abbrev pub answer-at : List ℕ → Call → Answer
 answer-at = answer-by whole true

@@ -10,7 +10,7 @@ ghost use Rattle.score.specs.Music.{length-end, lasts, total, fine, fine-length
 ghost use Rattle.score.specs.Calls.{empty-voices, all-events, ticks-end, put as put-call, cut as cut-call, change as change-call, how-long, voice as voice-of-score};
 ghost use Rattle.score.specs.Promise.{Good-layout, Good-limits, whole};
 ghost use Rattle.laws.specs.Rows.{event-of};
-ghost use Rattle.memory.specs.Store.{words-asked, stands, alters, stored, limits-at, layout-at, voices-in, limit-in, places-from, alterations-from, lengths-from, score-of};
+ghost use Rattle.memory.specs.Store.{counts-from, words-asked, stands, alters, stored, limits-at, layout-at, voices-in, limit-in, places-from, alterations-from, lengths-from, score-of};
 ghost use Rattle.memory.specs.Words.{Holds, Spans, answer-at, next-words};
 ghost use Rattle.memory.specs.Moves.{with-event, without-event, with-other};
 ghost use Rattle.voices.specs.Rows.{Row-of};
@@ -72,7 +72,7 @@ struct Row {
 
 /// Writes the header's words.
 fn write_header(words: &mut [u32], key: u32, bar: u32, voices: u32, limit: u32)
-    requires { ⌜ 4 ≤ length (now words) ⌝ }
+    requires { ⌜ counts-from ≤ length (now words) ⌝ }
     ensures { λ _. ⌜ now (words .exit) ≡ set (set (set (set (now (words .entry)) 0 key) 1 bar) 2 voices) 3 limit ⌝ }
 {
     words[KEY] = key;
@@ -382,7 +382,7 @@ pub fn put(words: &mut [u32], voice: u32, index: u32, event: Event) -> Result<()
 
 /// The event at a place goes out of each region, from a voice that is then so many ticks long.
 fn remove_event(words: &mut [u32], voice: usize, used: usize, at: usize, ticks: u32)
-    requires { ⌜ Holds (now words) ⌝ ∗ ⌜ voice < voices-in (now words) ⌝ ∗ ⌜ 0 < getD (now words) (4 + voice) 0 ⌝ ∗ ⌜ at < used ⌝ ∗ ⌜ used ≤ limit-in (now words) ⌝ }
+    requires { ⌜ Holds (now words) ⌝ ∗ ⌜ voice < voices-in (now words) ⌝ ∗ ⌜ 0 < getD (now words) (counts-from + voice) 0 ⌝ ∗ ⌜ at < used ⌝ ∗ ⌜ used ≤ limit-in (now words) ⌝ }
     ensures { λ _. ⌜ now (words .exit) ≡ without-event (now (words .entry)) voice used at ticks ⌝ }
 {
     let regions = regions_of(words);
