@@ -1,32 +1,19 @@
 -- A key by the order of its signs, as the code finds it. Assumes nothing.
-use mathlib.Core.Path.{_≡_, refl, sym, ap, _∙_, subst}
+use mathlib.Core.Path.{_≡_, refl, sym, ap, _∙_}
 use mathlib.Core.Logic.{_⊎_, inl, inr}
-use mathlib.Core.Bool.{Bool, true, _&&_}
+use mathlib.Core.Bool.{Bool, true}
 use mathlib.Core.List.{List, [], _∷_}
-use Prim.Native.Nat.{ℕ, zero, suc, _+_, _*_, _-_, _%_, _≤_, _<_}
+use Prim.Native.Nat.{ℕ, _+_, _*_, _-_, _%_, _≤_, _<_}
 use native.Mathlib.Omega.{arith}
 use native.Mathlib.Nat.{mod-mod}
 use lib.Dec.{ltb, leb, eqb}
 use lib.ListN.{take}
-use Rattle.std.proofs.shelf.Tests.{le-leb, lt-leb, lt-ltb, le-ltb, eqb-true, and-parts, cases-lt}
+use Rattle.std.proofs.shelf.Tests.{le-leb, lt-leb, lt-ltb, le-ltb, eqb-true, cases-lt}
 use Rattle.std.proofs.shelf.Lists.{take-all}
 use Rattle.score.specs.Music.{pick}
 use Rattle.score.specs.Print.{among, key}
 use Rattle.score.proofs.Picks.{pick-true, pick-false}
-
--- a test of each number below another
-unfoldable pub each-below : (ℕ → Bool) → ℕ → Bool
-each-below f zero = true
-each-below f (suc n) = f n && each-below f n
-
-pub each-at : (f : ℕ → Bool) (n m : ℕ) → each-below f n ≡ true → m < n → f m ≡ true
-unfolding each-below
-each-at f zero m h l = absurd (omega arith)
-each-at f (suc n) m h l = go (cases-lt m n) (each-at f n m (and-parts _ _ h .1))
-  where
-    go : (m < n) ⊎ (n ≤ m) → (m < n → f m ≡ true) → f m ≡ true
-    go (inl a) ih = ih a
-    go (inr a) ih = subst (λ (x : ℕ). f x ≡ true) (omega arith) (and-parts _ _ h .0)
+use Rattle.score.proofs.Tables.{each-below, each-at}
 
 -- the place of a step in the order of sharps, f c g d a e b, and the alteration by it
 abbrev pub order-of : ℕ → ℕ

@@ -9,7 +9,7 @@ use lib.ListN.{length}
 use Rattle.std.proofs.shelf.Tests.{leb-true, and-parts}
 use Rattle.score.specs.Print.{all-values, largest, pieces}
 use Rattle.score.specs.Promise.{sum-of, is-value, all-are, Fewest}
-use Rattle.laws.proofs.Tables.{each-below, each-at, each-of, each-of-at}
+use Rattle.score.proofs.Tables.{each-below, each-at, each-of, each-of-at}
 use Rattle.laws.proofs.Pieces.{value-good, pieces-sum, pieces-are, pieces-whole}
 
 -- how many values a length takes

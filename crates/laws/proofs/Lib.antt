@@ -1,4 +1,3 @@
-pub mod Tables
 pub mod Events
 pub mod Rows
 pub mod Pieces

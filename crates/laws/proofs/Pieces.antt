@@ -11,8 +11,8 @@ use Rattle.score.specs.Music.{pick}
 use Rattle.score.specs.Print.{all-values, largest, pieces}
 use Rattle.score.specs.Promise.{sum-of, is-value, all-are}
 use Rattle.score.proofs.Picks.{pick-true, pick-false, pick-both, eqb-same}
+use Rattle.score.proofs.Tables.{each-of, each-of-at}
 use Rattle.laws.specs.Laying.{Comes-to}
-use Rattle.laws.proofs.Tables.{each-of, each-of-at}
 
 -- every value is some ticks long, at most a whole note, and a multiple of 3
 good-value : ℕ → Bool

@@ -1,1 +1,2 @@
 pub mod Picks
+pub mod Tables

@@ -2,9 +2,8 @@
 use mathlib.Core.Path.{_≡_}
 use mathlib.Core.Bool.{true, false}
 use mathlib.Core.List.{List, [], _∷_}
-use Prim.Native.Nat.{ℕ}
-use Rattle.score.specs.Music.{Event, note, Heard, heard}
-use Rattle.score.specs.Print.{Symbol, bar, head, printed}
+use Rattle.score.specs.Music.{Event, note, heard}
+use Rattle.score.specs.Print.{bar, head, printed}
 
 -- c4, d4 and e4, which fill a bar
 abbrev pub scale : List Event

@@ -1,6 +1,5 @@
 -- What the declared types mean: each in the definitions' own data, and of a refusal its number and its place. Assumes nothing.
-use mathlib.Core.Bool.{Bool}
-use mathlib.Core.List.{List, map}
+use mathlib.Core.List.{map}
 use Prim.Native.Nat.{ℕ}
 use Rattle.score.specs.Music as music
 use Rattle.score.specs.Print as print
