@@ -2,7 +2,7 @@
 use mathlib.Core.Path.{_≡_, refl, sym, ap, ap₂, _∙_, subst}
 use mathlib.Core.Bool.{Bool, true, false}
 use mathlib.Core.List.{List, [], _∷_}
-use Prim.Native.Nat.{ℕ, zero, suc, _+_, _*_, _-_, _%_, _≤_, _<_}
+use Prim.Native.Nat.{ℕ, zero, suc, _+_, _*_, _-_, _%_, min, _≤_, _<_}
 use native.Mathlib.Omega.{arith}
 use lib.Dec.{ltb, eqb}
 use lib.ListN.{length, getD, set}
@@ -93,25 +93,38 @@ pub rowed : (r : Rows) (y : Layout) (i : ℕ) → Ready r y → i < length (r .l
 rowed r y i g h = record { there = h; same-places = g .same-places; same-alterations = g .same-alterations; fine = g .fine }
 
 -- an event is passed over
-pub pass-turn : {ps xs ds : List ℕ} {i : ℕ} (k b t o : ℕ) (hs : List ℕ) (n : ℕ) → Rowed ps xs ds i → getD ds i 0 ≤ t →
+passed-by : {ps xs ds : List ℕ} {i : ℕ} (k b t o : ℕ) (hs : List ℕ) (n : ℕ) → Rowed ps xs ds i → getD ds i 0 ≤ t →
     in-voice k b t o hs (rest-of ps xs ds i) n ≡ in-voice k b (t - getD ds i 0) o hs (rest-of ps xs ds (i + 1)) n
 unfolding in-voice rest-from
-pass-turn {ps} {xs} {ds} {i} k b t o hs n r l =
+passed-by {ps} {xs} {ds} {i} k b t o hs n r l =
     let w = lasts-words (getD ps i 0) (getD xs i 0) (getD ds i 0) in
     ap (λ (es : List Event). so-many (rest-from k b t o (held-in k hs) es) n) (this-event r)
     ∙ ap (λ (ys : List Symbol). so-many ys n) (pick-true _ _ _ (le-leb _ t (subst (λ (x : ℕ). x ≤ t) (sym w) l)))
     ∙ ap (λ (x : ℕ). so-many (rest-from k b (t - x) o (held-in k hs) (rest-of ps xs ds (i + 1))) n) w
 
 -- an event sounds already where the first bar begins: its heads there have no sign
-pub reach-turn : {ps xs ds : List ℕ} {i : ℕ} (k b t o : ℕ) (hs : List ℕ) (n : ℕ) → Rowed ps xs ds i → t < getD ds i 0 → 0 < t →
+reached : {ps xs ds : List ℕ} {i : ℕ} (k b t o : ℕ) (hs : List ℕ) (n : ℕ) → Rowed ps xs ds i → t < getD ds i 0 → 0 < t →
     in-voice k b t o hs (rest-of ps xs ds i) n ≡ in-event k b o hs (getD ps i 0) 0 (getD ds i 0 - t) (rest-of ps xs ds (i + 1)) n
 unfolding in-voice in-event rest-from
-reach-turn {ps} {xs} {ds} {i} k b t o hs n r l m =
+reached {ps} {xs} {ds} {i} k b t o hs n r l m =
     let w = lasts-words (getD ps i 0) (getD xs i 0) (getD ds i 0) in
     let p = place-words (getD ps i 0) (getD xs i 0) (getD ds i 0) in
     ap (λ (es : List Event). so-many (rest-from k b t o (held-in k hs) es) n) (this-event r)
     ∙ ap (λ (ys : List Symbol). so-many ys n) (pick-false _ _ _ (lt-leb _ t (subst (λ (x : ℕ). t < x) (sym w) l)) ∙ pick-false _ _ _ (ne-eqb t 0 (λ z. omega arith)))
     ∙ ap₂ (λ (x y : ℕ). so-many (owed k b o (held-in k hs) x 0 (y - t) (rest-of ps xs ds (i + 1))) n) p w
+
+-- where g ticks of an event are gone, as many as it has of those that are to be passed over
+pub pass-turn : {ps xs ds : List ℕ} {i : ℕ} (k b t o g : ℕ) (hs : List ℕ) (n : ℕ) → Rowed ps xs ds i → g ≡ min t (getD ds i 0) → getD ds i 0 - g ≡ 0 →
+    in-voice k b t o hs (rest-of ps xs ds i) n ≡ in-voice k b (t - g) o hs (rest-of ps xs ds (i + 1)) n
+pass-turn {ps} {xs} {ds} {i} k b t o g hs n r e z =
+    let w : getD ds i 0 ≡ g = omega arith in
+    passed-by k b t o hs n r (omega arith) ∙ ap (λ (d : ℕ). in-voice k b (t - d) o hs (rest-of ps xs ds (i + 1)) n) w
+
+pub reach-turn : {ps xs ds : List ℕ} {i : ℕ} (k b t o g : ℕ) (hs : List ℕ) (n : ℕ) → Rowed ps xs ds i → g ≡ min t (getD ds i 0) → (getD ds i 0 - g ≡ 0 → ⊥) → (g ≡ 0 → ⊥) →
+    in-voice k b t o hs (rest-of ps xs ds i) n ≡ in-event k b o hs (getD ps i 0) 0 (getD ds i 0 - g) (rest-of ps xs ds (i + 1)) n
+reach-turn {ps} {xs} {ds} {i} k b t o g hs n r e z m =
+    let w : t ≡ g = omega arith in
+    reached k b t o hs n r (omega arith) (omega arith) ∙ ap (λ (x : ℕ). in-event k b o hs (getD ps i 0) 0 (getD ds i 0 - x) (rest-of ps xs ds (i + 1)) n) w
 
 -- an event begins
 begun : {ps xs ds : List ℕ} {i : ℕ} (k b t o : ℕ) (hs : List ℕ) (n : ℕ) (e : Event) → Rowed ps xs ds i → t ≡ 0 → event-of (getD ps i 0) (getD xs i 0) (getD ds i 0) ≡ e →
@@ -122,38 +135,38 @@ begun {ps} {xs} {ds} {i} k b t o hs n e r z w =
     ∙ ap (λ (ys : List Symbol). so-many ys n) (rest-none k b o (held-in k hs) (rest-of ps xs ds i) (fine-from ps xs ds i (r .fine)))
     ∙ ap (λ (es : List Event). so-many (print k b o (held-in k hs) es) n) (this-event r ∙ ap (λ (v : Event). v ∷ rest-of ps xs ds (i + 1)) w)
 
-pub silent-turn : {ps xs ds : List ℕ} {i : ℕ} (k b t o : ℕ) (hs : List ℕ) (n : ℕ) → Rowed ps xs ds i → t ≡ 0 → o < b → getD ps i 0 ≡ 70 →
-    in-voice k b t o hs (rest-of ps xs ds i) n ≡ in-event k b o hs (getD ps i 0) 0 (getD ds i 0) (rest-of ps xs ds (i + 1)) n
+pub silent-turn : {ps xs ds : List ℕ} {i : ℕ} (k b t o d : ℕ) (hs : List ℕ) (n : ℕ) → Rowed ps xs ds i → t ≡ 0 → getD ds i 0 ≡ d → o < b → getD ps i 0 ≡ 70 →
+    in-voice k b t o hs (rest-of ps xs ds i) n ≡ in-event k b o hs (getD ps i 0) 0 d (rest-of ps xs ds (i + 1)) n
 unfolding in-event
-silent-turn {ps} {xs} {ds} {i} k b t o hs n r z l e =
-    begun k b t o hs n (silence (getD ds i 0)) r z (pick-true _ _ _ (eq-eqb _ 70 e))
-    ∙ ap (λ (ys : List Symbol). so-many ys n) (begins-rest k b o (held-in k hs) 0 (getD ds i 0) (rest-of ps xs ds (i + 1)) l ∙ ap (λ (p : ℕ). owed k b o (held-in k hs) p 0 (getD ds i 0) (rest-of ps xs ds (i + 1))) (sym e))
+silent-turn {ps} {xs} {ds} {i} k b t o d hs n r z w l e =
+    begun k b t o hs n (silence d) r z (pick-true _ _ _ (eq-eqb _ 70 e) ∙ ap silence w)
+    ∙ ap (λ (ys : List Symbol). so-many ys n) (begins-rest k b o (held-in k hs) 0 d (rest-of ps xs ds (i + 1)) l ∙ ap (λ (p : ℕ). owed k b o (held-in k hs) p 0 d (rest-of ps xs ds (i + 1))) (sym e))
 
 -- a note begins, whose alteration holds at its place or then begins to hold there
-note-turn : {ps xs ds : List ℕ} {i : ℕ} (k b t o : ℕ) (hs : List ℕ) (n : ℕ) → Rowed ps xs ds i → t ≡ 0 → o < b → (getD ps i 0 ≡ 70 → ⊥) → length hs ≡ places →
+note-turn : {ps xs ds : List ℕ} {i : ℕ} (k b t o d : ℕ) (hs : List ℕ) (n : ℕ) → Rowed ps xs ds i → t ≡ 0 → getD ds i 0 ≡ d → o < b → (getD ps i 0 ≡ 70 → ⊥) → length hs ≡ places →
     in-voice k b t o hs (rest-of ps xs ds i) n
-    ≡ in-event k b o (set hs (getD ps i 0) (getD xs i 0)) (getD ps i 0) (pick (eqb (getD hs (getD ps i 0) 0) (getD xs i 0)) 0 (suc (getD xs i 0))) (getD ds i 0) (rest-of ps xs ds (i + 1)) n
+    ≡ in-event k b o (set hs (getD ps i 0) (getD xs i 0)) (getD ps i 0) (pick (eqb (getD hs (getD ps i 0) 0) (getD xs i 0)) 0 (suc (getD xs i 0))) d (rest-of ps xs ds (i + 1)) n
 unfolding in-event
-note-turn {ps} {xs} {ds} {i} k b t o hs n r z l ne len =
+note-turn {ps} {xs} {ds} {i} k b t o d hs n r z w l ne len =
     let lt : getD ps i 0 < places = omega (arith, event-words r .place) in
-    begun k b t o hs n (note (getD ps i 0) (getD xs i 0) (getD ds i 0)) r z (pick-false _ _ _ (ne-eqb _ 70 ne))
-    ∙ ap (λ (ys : List Symbol). so-many ys n) (begins-note k b o (held-in k hs) (getD ps i 0) (getD xs i 0) (getD ds i 0) (rest-of ps xs ds (i + 1)) l ne
-    ∙ ap₂ (λ (st : ℕ → ℕ) (x : ℕ). owed k b o st (getD ps i 0) (pick (eqb x (getD xs i 0)) 0 (suc (getD xs i 0))) (getD ds i 0) (rest-of ps xs ds (i + 1)))
+    begun k b t o hs n (note (getD ps i 0) (getD xs i 0) d) r z (pick-false _ _ _ (ne-eqb _ 70 ne) ∙ ap (note (getD ps i 0) (getD xs i 0)) w)
+    ∙ ap (λ (ys : List Symbol). so-many ys n) (begins-note k b o (held-in k hs) (getD ps i 0) (getD xs i 0) d (rest-of ps xs ds (i + 1)) l ne
+    ∙ ap₂ (λ (st : ℕ → ℕ) (x : ℕ). owed k b o st (getD ps i 0) (pick (eqb x (getD xs i 0)) 0 (suc (getD xs i 0))) d (rest-of ps xs ds (i + 1)))
     (sym (held-set k hs (getD ps i 0) (getD xs i 0) lt (omega arith))) (held-at k hs (getD ps i 0) lt))
 
-pub plain-turn : {ps xs ds : List ℕ} {i : ℕ} (k b t o : ℕ) (hs : List ℕ) (n : ℕ) → Rowed ps xs ds i → t ≡ 0 → o < b → (getD ps i 0 ≡ 70 → ⊥) → length hs ≡ places → getD hs (getD ps i 0) 0 ≡ getD xs i 0 →
-    in-voice k b t o hs (rest-of ps xs ds i) n ≡ in-event k b o hs (getD ps i 0) 0 (getD ds i 0) (rest-of ps xs ds (i + 1)) n
-plain-turn {ps} {xs} {ds} {i} k b t o hs n r z l ne len e =
-    note-turn k b t o hs n r z l ne len
-    ∙ ap₂ (λ (ws : List ℕ) (s : ℕ). in-event k b o ws (getD ps i 0) s (getD ds i 0) (rest-of ps xs ds (i + 1)) n)
+pub plain-turn : {ps xs ds : List ℕ} {i : ℕ} (k b t o d : ℕ) (hs : List ℕ) (n : ℕ) → Rowed ps xs ds i → t ≡ 0 → getD ds i 0 ≡ d → o < b → (getD ps i 0 ≡ 70 → ⊥) → length hs ≡ places → getD hs (getD ps i 0) 0 ≡ getD xs i 0 →
+    in-voice k b t o hs (rest-of ps xs ds i) n ≡ in-event k b o hs (getD ps i 0) 0 d (rest-of ps xs ds (i + 1)) n
+plain-turn {ps} {xs} {ds} {i} k b t o d hs n r z w l ne len e =
+    note-turn k b t o d hs n r z w l ne len
+    ∙ ap₂ (λ (ws : List ℕ) (s : ℕ). in-event k b o ws (getD ps i 0) s d (rest-of ps xs ds (i + 1)) n)
     (ap (set hs (getD ps i 0)) (sym e) ∙ set-getD hs (getD ps i 0) 0) (pick-true _ _ _ (eq-eqb _ _ e))
 
-pub signed-turn : {ps xs ds : List ℕ} {i : ℕ} (k b t o : ℕ) (hs : List ℕ) (n : ℕ) → Rowed ps xs ds i → t ≡ 0 → o < b → (getD ps i 0 ≡ 70 → ⊥) → length hs ≡ places → (getD hs (getD ps i 0) 0 ≡ getD xs i 0 → ⊥) →
-    in-voice k b t o hs (rest-of ps xs ds i) n ≡ in-event k b o (set hs (getD ps i 0) (getD xs i 0)) (getD ps i 0) (getD xs i 0 + 1) (getD ds i 0) (rest-of ps xs ds (i + 1)) n
-signed-turn {ps} {xs} {ds} {i} k b t o hs n r z l ne len e =
+pub signed-turn : {ps xs ds : List ℕ} {i : ℕ} (k b t o d : ℕ) (hs : List ℕ) (n : ℕ) → Rowed ps xs ds i → t ≡ 0 → getD ds i 0 ≡ d → o < b → (getD ps i 0 ≡ 70 → ⊥) → length hs ≡ places → (getD hs (getD ps i 0) 0 ≡ getD xs i 0 → ⊥) →
+    in-voice k b t o hs (rest-of ps xs ds i) n ≡ in-event k b o (set hs (getD ps i 0) (getD xs i 0)) (getD ps i 0) (getD xs i 0 + 1) d (rest-of ps xs ds (i + 1)) n
+signed-turn {ps} {xs} {ds} {i} k b t o d hs n r z w l ne len e =
     let s : suc (getD xs i 0) ≡ getD xs i 0 + 1 = omega arith in
-    note-turn k b t o hs n r z l ne len
-    ∙ ap (λ (x : ℕ). in-event k b o (set hs (getD ps i 0) (getD xs i 0)) (getD ps i 0) x (getD ds i 0) (rest-of ps xs ds (i + 1)) n) (pick-false _ _ _ (ne-eqb _ _ e) ∙ s)
+    note-turn k b t o d hs n r z w l ne len
+    ∙ ap (λ (x : ℕ). in-event k b o (set hs (getD ps i 0) (getD xs i 0)) (getD ps i 0) x d (rest-of ps xs ds (i + 1)) n) (pick-false _ _ _ (ne-eqb _ _ e) ∙ s)
 
 -- an event has ended, and all have
 pub end-turn : (k b t o : ℕ) (hs : List ℕ) (p s d : ℕ) (es : List Event) (n : ℕ) → all-fine es ≡ true → o < b → d ≡ 0 → t ≡ 0 → in-event k b o hs p s d es n ≡ in-voice k b t o hs es n

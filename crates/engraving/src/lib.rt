@@ -10,6 +10,7 @@ ghost use Rattle.score.specs.Print.{from-bar, so-many};
 ghost use Rattle.score.specs.Print.{Symbol as Printed};
 ghost use Rattle.laws.specs.Owed.{one};
 ghost use Rattle.wire.specs.Bytes.{symbols-bytes};
+ghost use Rattle.keys.specs.Held.{key-row};
 ghost use Rattle.engraving.specs.Shown.{shown, page-bytes, bars-take};
 ghost use Rattle.engraving.specs.Voice.{voice-in, Ready};
 use keys::PLACES;
@@ -49,7 +50,7 @@ fn symbol_at(place: u32, sign: u32, value: u32, tied: bool) -> Symbol
     }
 }
 
-/// Prints bars, with what holds at each place in a slice of its own.
+/// Prints at least one bar. At each place there holds what `holds` says: at first the key, and behind each bar line again.
 fn print_bars(
     rows: Rows,
     layout: Layout,
@@ -59,29 +60,26 @@ fn print_bars(
     out: &mut [u8],
 ) -> usize
     requires ready { ⌜ Ready rows layout ⌝ }
-    requires row { ⌜ length (now holds) ≡ places ⌝ }
+    requires row { ⌜ length (now holds) ≡ places ⌝ ∗ ⌜ now holds ≡ key-row (layout .key) ⌝ }
     requires some { ⌜ 0 < count ⌝ }
     requires room { ⌜ length (shown (layout .key) (layout .bar) (voice-in rows) from count) ≤ length (now out) ⌝ }
     ensures wrote { λ r. ⌜ now (out .exit) ≡ shown (layout .key) (layout .bar) (voice-in (rows .entry)) from count ++ drop r (now (out .entry)) ⌝ }
     ensures many { λ r. ⌜ r ≡ length (shown (layout .key) (layout .bar) (voice-in (rows .entry)) from count) ⌝ }
 {
-    begin_bar(layout.key, holds);
     let mut at = 0;
     let mut begun = 0;
     let mut more = count;
     let mut skip = from as u64 * layout.bar as u64;
     'events: for i in 0..rows.lengths.len() {
         let place = rows.places[i];
-        let mut left = rows.lengths[i];
-        if left as u64 <= skip {
-            skip -= left as u64;
+        let gone = skip.min(rows.lengths[i] as u64) as u32;
+        skip -= gone as u64;
+        let mut left = rows.lengths[i] - gone;
+        if left == 0 {
             continue 'events;
         }
         let mut sign = 0;
-        if skip > 0 {
-            left -= skip as u32;
-            skip = 0;
-        } else if place != SILENT && holds[place as usize] != rows.alterations[i] {
+        if gone == 0 && place != SILENT && holds[place as usize] != rows.alterations[i] {
             sign = rows.alterations[i] + 1;
             holds[place as usize] = rows.alterations[i];
         }
@@ -120,6 +118,7 @@ pub fn engrave(rows: Rows, layout: Layout, from: u32, count: u32, out: &mut [u8]
         return 0;
     }
     let mut holds = [0; PLACES];
+    begin_bar(layout.key, &mut holds);
     print_bars(rows, layout, from, count, &mut holds, out)
 }
 

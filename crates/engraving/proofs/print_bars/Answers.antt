@@ -14,72 +14,59 @@ use Rattle.engraving.proofs.Page.{Page, starts, owing, enter, leave, room, wri
 use Rattle.engraving.proofs.Turns.{in-event, in-voice, times-three, starts-voice, value-turn, part-turn, line-turn, next-bar, begins-bar, no-bar, Rowed, rowed, event-words, pass-turn, reach-turn, silent-turn, plain-turn, signed-turn, end-turn, no-event}
 use Rattle.engraving.proofs.print_bars.Choices.{events-from}
 use Rattle.engraving.proofs.print_bars.Needs as need
-use Rattle.engraving.proofs.print_bars.Needs.{then-skip-gt0, else-skip-gt0·then-place-ne-SILENT·then-holds-place, else-skip-gt0·else-place-ne-SILENT, else-place-ne-SILENT·by·then-place-ne-SILENT·else-holds-place, else-place-ne-SILENT·by·else-place-ne-SILENT}
-use Rattle.engraving.proofs.print_bars.Needs.{Joined-skip-gt0, After-largest-value, Then-begun-layout}
+use Rattle.engraving.proofs.print_bars.Needs.{then-gone-eq0·then-place-ne-SILENT·then-holds-place, else-gone-eq0, else-gone-eq0·by·then-gone-eq0·then-place-ne-SILENT·else-holds-place, else-gone-eq0·by·then-gone-eq0·else-place-ne-SILENT, else-gone-eq0·by·else-gone-eq0}
+use Rattle.engraving.proofs.print_bars.Needs.{Joined-gone-eq0, After-largest-value, Then-begun-layout}
 
 pub events-holds : need.events-holds
 events-holds c = (
-  starts _ _ _ (starts-voice (c .args .layout .key) (c .args .layout .bar) (c .args .from) (c .args .count) (c .begin-bar .last .holds) _ (omega arith) (omega arith) (c .pre .ready .fine) (c .begin-bar .ensures)),
+  starts _ _ _ (starts-voice (c .args .layout .key) (c .args .layout .bar) (c .args .from) (c .args .count) (c .args .holds .now) _ (omega arith) (omega arith) (c .pre .ready .fine) (c .pre .row .1)),
   omega arith,
   refl,
   omega arith,
   times-three (c .args .from) (c .args .layout .bar) (omega arith),
 )
 
-pub events-again-then-left-skip : need.events-again-then-left-skip
-events-again-then-left-skip c =
+pub events-again-then-left-eq0 : need.events-again-then-left-eq0
+events-again-then-left-eq0 c =
     let r = rowed (c .args .rows) (c .args .layout) (c .events .i) (c .pre .ready) (c .events-test .taken) in
     let w = event-words r in
-    (owing _ (c .events .inv .0) (pass-turn _ _ _ _ _ _ r (c .if-left-skip .taken)), omega arith, omega arith, omega arith, omega (arith, w .three))
+    let g = c .min-gone .ensures in
+    (owing _ (c .events .inv .0) (pass-turn _ _ _ _ _ _ _ r g (c .if-left-eq0 .taken)), omega arith, omega arith, omega arith, omega (arith, w .three))
 
 -- the event of this turn
-this : (c : Joined-skip-gt0) → Rowed (c .args .rows .places .now) (c .args .rows .alterations .now) (c .args .rows .lengths .now) (c .events .i)
+this : (c : Joined-gone-eq0) → Rowed (c .args .rows .places .now) (c .args .rows .alterations .now) (c .args .rows .lengths .now) (c .events .i)
 this c = rowed (c .args .rows) (c .args .layout) (c .events .i) (c .pre .ready) (c .events-test .taken)
 
--- and nothing is left to pass over
-passed : (c : Joined-skip-gt0) → c .if-skip-gt0 .skip ≡ 0
-passed c =
-    elim (c .if-skip-gt0 .came) [
-      | then-skip-gt0 w ↦ w .skip-is
-      | else-skip-gt0·then-place-ne-SILENT·then-holds-place w ↦ omega (arith, w .skip-is, w .if-skip-gt0 .left)
-      | else-skip-gt0·else-place-ne-SILENT w ↦ omega (arith, w .skip-is, w .if-skip-gt0 .left)
-    ]
+-- nothing is left to pass over
+passed : (c : Joined-gone-eq0) → c .events .skip - c .min-gone .result ≡ 0
+passed c = omega (arith, c .min-gone .ensures, c .if-left-eq0 .left)
 
 pub bars-holds : need.bars-holds
 bars-holds c =
     let r = this c in
     let x = event-words r in
-    elim (c .if-skip-gt0 .came) [
-      | then-skip-gt0 w ↦
-          simp (w .holds-is, w .left-is, w .sign-is) (
-            enter (owing _ (c .events .inv .0) (reach-turn _ _ _ _ _ _ r (c .if-left-skip .left) (w .if-skip-gt0 .taken))),
+    let z = passed c in
+    elim (c .if-gone-eq0 .came) [
+      | then-gone-eq0·then-place-ne-SILENT·then-holds-place w ↦
+          simp (w .holds-is, w .sign-is) (
+            enter (owing _ (c .events .inv .0) (signed-turn _ _ (c .events .skip) _ (getD (c .args .rows .lengths .now) (c .events .i) 0 - c .min-gone .result) _ _ r (omega (arith, w .if-gone-eq0 .taken)) (omega (arith, w .if-gone-eq0 .taken)) (omega arith) (w .if-place-ne-SILENT .taken) (omega arith) (w .if-holds-place .taken))),
             omega arith,
             omega arith,
-            omega (arith, x .three),
-            omega arith,
-            omega arith,
-            omega arith,
-          )
-      | else-skip-gt0·then-place-ne-SILENT·then-holds-place w ↦
-          simp (w .holds-is, w .left-is, w .sign-is) (
-            enter (owing _ (c .events .inv .0) (signed-turn _ _ _ _ _ _ r (omega (arith, w .if-skip-gt0 .left)) (omega arith) (w .if-place-ne-SILENT .taken) (omega arith) (w .if-holds-place .taken))),
-            omega arith,
-            omega arith,
-            x .three,
+            omega (arith, w .if-gone-eq0 .taken, x .three),
             omega (arith, x .alters (omega (arith, x .place, w .if-place-ne-SILENT .taken))),
             omega arith,
             omega arith,
           )
-      | else-skip-gt0·else-place-ne-SILENT w ↦
-          let z : c .events .skip ≡ 0 = omega (arith, w .if-skip-gt0 .left) in
-          simp (w .holds-is, w .left-is, w .sign-is) (
-            enter (owing _ (c .events .inv .0) (elim (w .else-place-ne-SILENT .came) [
-              | else-place-ne-SILENT·by·then-place-ne-SILENT·else-holds-place v ↦ plain-turn _ _ _ _ _ _ r z (omega arith) (v .if-place-ne-SILENT .taken) (omega arith) (v .if-holds-place .left)
-              | else-place-ne-SILENT·by·else-place-ne-SILENT v ↦ silent-turn _ _ _ _ _ _ r z (omega arith) (v .if-place-ne-SILENT .left)
+      | else-gone-eq0 w ↦
+          simp (w .holds-is, w .sign-is) (
+            enter (owing _ (c .events .inv .0) (elim (w .else-gone-eq0 .came) [
+              | else-gone-eq0·by·then-gone-eq0·then-place-ne-SILENT·else-holds-place v ↦ plain-turn _ _ (c .events .skip) _ (getD (c .args .rows .lengths .now) (c .events .i) 0 - c .min-gone .result) _ _ r (omega (arith, v .if-gone-eq0 .taken)) (omega (arith, v .if-gone-eq0 .taken)) (omega arith) (v .if-place-ne-SILENT .taken) (omega arith) (v .if-holds-place .left)
+              | else-gone-eq0·by·then-gone-eq0·else-place-ne-SILENT v ↦ silent-turn _ _ (c .events .skip) _ (getD (c .args .rows .lengths .now) (c .events .i) 0 - c .min-gone .result) _ _ r (omega (arith, v .if-gone-eq0 .taken)) (omega (arith, v .if-gone-eq0 .taken)) (omega arith) (v .if-place-ne-SILENT .left)
+              | else-gone-eq0·by·else-gone-eq0 v ↦ reach-turn _ _ _ _ _ _ _ r (c .min-gone .ensures) (c .if-left-eq0 .left) (v .if-gone-eq0 .left)
             ])),
             omega arith,
             omega arith,
-            x .three,
+            omega (arith, x .three, c .min-gone .ensures),
             omega arith,
             omega arith,
             omega arith,
@@ -102,7 +89,7 @@ line : (c : Then-begun-layout) →
 line c = line-turn (c .args .layout .key) (c .args .layout .bar) (c .values .begun) (c .bars .holds) (getD (c .args .rows .places .now) (c .events .i) 0) (c .values .sign) (c .values .left) _ (c .bars .more) (omega arith) (c .if-begun-layout .taken) (omega arith)
 
 pub symbol-at-requires : need.symbol-at-requires
-symbol-at-requires c κs = let x = event-words (this (need.at·symbol-at-requires c .Joined-skip-gt0)) in (x .place, (omega arith, omega arith))
+symbol-at-requires c κs = let x = event-words (this (need.at·symbol-at-requires c .Joined-gone-eq0)) in (x .place, (omega arith, omega arith))
 
 pub write-symbol-at-requires : need.write-symbol-at-requires
 write-symbol-at-requires c κs = room _ _ (c .values .inv .0) (value (need.at·write-symbol-at-requires c .After-largest-value)) (omega arith)
@@ -129,7 +116,7 @@ pub bars-again-then-begun-layout : need.bars-again-then-begun-layout
 bars-again-then-begun-layout c =
     let e = line (need.at·bars-again-then-begun-layout c .Then-begun-layout) in
     let w = write _ _ (c .write-symbol-at-then-begun-layout .last .out) (c .write-symbol-at-then-begun-layout .result) (c .values .inv .0) e (omega arith) (c .write-symbol-at-then-begun-layout .ensures .many) (c .write-symbol-at-then-begun-layout .ensures .wrote) in (
-      leave (c .bars .at) (owing _ w (begins-bar _ _ _ _ _ _ _ _ (c .begin-bar-then-begun-layout .ensures))) (c .bars .inv .0 .back) (omega arith),
+      leave (c .bars .at) (owing _ w (begins-bar _ _ _ _ _ _ _ _ (c .begin-bar .ensures))) (c .bars .inv .0 .back) (omega arith),
       omega arith,
       refl,
       omega arith,
@@ -144,12 +131,12 @@ bars-again c = (leave (c .bars .at) (c .values .inv .0) (c .bars .inv .0 .back) 
 pub events-again : need.events-again
 events-again c = (
   leave (c .events .at)
-      (owing _ (c .bars .inv .0) (end-turn _ _ _ _ _ _ _ _ _ _ (fine-from (c .args .rows .places .now) (c .args .rows .alterations .now) (c .args .rows .lengths .now) (c .events .i + 1) (c .pre .ready .fine)) (omega arith) (omega arith) (passed (need.at·events-again c .Joined-skip-gt0))))
+      (owing _ (c .bars .inv .0) (end-turn _ _ _ _ _ _ _ _ _ _ (fine-from (c .args .rows .places .now) (c .args .rows .alterations .now) (c .args .rows .lengths .now) (c .events .i + 1) (c .pre .ready .fine)) (omega arith) (omega arith) (passed (need.at·events-again c .Joined-gone-eq0))))
       (c .events .inv .0 .back) (omega arith),
   omega arith,
   omega arith,
   omega arith,
-  omega (arith, passed (need.at·events-again c .Joined-skip-gt0)),
+  omega (arith, passed (need.at·events-again c .Joined-gone-eq0)),
 )
 
 pub returns-after-events : need.returns-after-events
