@@ -1,5 +1,5 @@
 -- What the declared types mean: each in the definitions' own data, and of a refusal its number and its place. Assumes nothing.
-use mathlib.Core.List.{map}
+use mathlib.Core.List.{List}
 use Prim.Native.Nat.{ℕ}
 use Rattle.score.specs.Music as music
 use Rattle.score.specs.Print as print
@@ -58,9 +58,10 @@ refusal-place Full = 0
 abbrev pub refusal-meant : Refusal → calls.Answer
 refusal-meant r = calls.refused (refusal-number r) (refusal-place r)
 
-abbrev pub answer-meant : Answer → calls.Answer
-answer-meant Done = calls.done
-answer-meant (Refused r) = refusal-meant r
-answer-meant (Symbols xs) = calls.symbols (map symbol-meant (xs .now))
-answer-meant (Sounds xs) = calls.sounds (map sound-meant (xs .now))
-answer-meant (Number n) = calls.number n
+-- an answer, with the symbols or the sounds that follow
+abbrev pub answer-meant : Answer → List print.Symbol → List (ℕ × music.Heard) → calls.Answer
+answer-meant Done xs hs = calls.done
+answer-meant (Refused n p) xs hs = calls.refused n p
+answer-meant (Symbols n) xs hs = calls.symbols xs
+answer-meant (Sounds n) xs hs = calls.sounds hs
+answer-meant (Number n) xs hs = calls.number n

@@ -98,14 +98,14 @@ pub enum Refusal {
     Full,
 }
 
-/// What is answered to a call.
+/// What is answered to a call. Of symbols and of sounds it says how many follow.
 #[derive(Clone, Copy)]
-pub enum Answer<'a> {
+pub enum Answer {
     Done,
-    Refused(Refusal),
-    Symbols(&'a [Symbol]),
-    Sounds(&'a [Sound]),
-    Number(u32),
+    Refused { number: u8, place: u32 },
+    Symbols { count: u32 },
+    Sounds { count: u32 },
+    Number { number: u32 },
 }
 
 impl Refusal {

@@ -12,12 +12,12 @@ ghost use Rattle.text.specs.Spelling.{spelled-bytes};
 use crate::spelling::spell_refusal;
 use crate::spelling::spell_sounds;
 use crate::spelling::spell_symbols;
+use score::Answer;
 use score::Sound;
 use score::Symbol;
 use std::alloc::AllocError;
 use std::alloc::Global;
 use std::error::AnyError;
-use wire::Said;
 use wire::read_answer;
 use wire::read_sound;
 use wire::read_symbol;
@@ -63,11 +63,11 @@ pub fn spell_answer(heap: Global, bytes: &[u8], out: &mut String) -> Result<(), 
         return Ok(());
     };
     match said {
-        Said::Done => write!(out, "done")?,
-        Said::Refused { number, place } => spell_refusal(number, place as usize, out)?,
-        Said::Symbols { count } => spell_symbols_in(heap, &bytes[5..], count, out)?,
-        Said::Sounds { count } => spell_sounds_in(heap, &bytes[5..], count, out)?,
-        Said::Number { number } => write!(out, "{number}")?,
+        Answer::Done => write!(out, "done")?,
+        Answer::Refused { number, place } => spell_refusal(number, place as usize, out)?,
+        Answer::Symbols { count } => spell_symbols_in(heap, &bytes[5..], count, out)?,
+        Answer::Sounds { count } => spell_sounds_in(heap, &bytes[5..], count, out)?,
+        Answer::Number { number } => write!(out, "{number}")?,
     }
     Ok(())
 }

@@ -11,8 +11,8 @@ use Rattle.std.specs.declared.option.Option.the-variants.{Some, None}
 use Rattle.score.specs.Music.{pick, Heard}
 use Rattle.score.specs.Print.{Symbol, bar, head, rest}
 use Rattle.score.specs.Calls.{Answer, done, refused, symbols, sounds, number}
-use Rattle.wire.specs.declared.answers.Said.{Said}
-use Rattle.wire.specs.declared.answers.Said.the-variants.{Done, Refused, Symbols, Sounds, Number}
+use Rattle.score.specs.declared.Answer.{Answer as Said}
+use Rattle.score.specs.declared.Answer.the-variants.{Done, Refused, Symbols, Sounds, Number}
 
 -- a number from its bytes, the low one first
 abbrev pub of-two : ℕ → ℕ → ℕ

@@ -10,21 +10,10 @@ ghost use Rattle.score.specs.Meaning.{symbol-meant, sound-meant, refusal-meant}
 ghost use Rattle.wire.specs.Bytes.{symbol-bytes, sound-bytes, symbols-head, sounds-head, answer-bytes};
 ghost use Rattle.wire.specs.Reading.{symbol-of, sound-of, number-of, refusal-of, said-of};
 use super::write_head;
+use score::Answer;
 use score::Refusal;
 use score::Sound;
 use score::Symbol;
-
-/// What is said first in an answer.
-#[derive(Clone, Copy)]
-pub enum Said {
-    Done,
-    Refused { number: u8, place: u32 },
-    /// So many symbols follow, behind the first five bytes.
-    Symbols { count: u32 },
-    /// So many sounds follow, behind the first five bytes.
-    Sounds { count: u32 },
-    Number { number: u32 },
-}
 
 /// Writes a symbol over the first five bytes, and returns how many that is.
 pub fn write_symbol(out: &mut [u8], symbol: Symbol) -> usize
@@ -150,40 +139,40 @@ pub fn read_sound(bytes: &[u8]) -> Option<Sound>
 }
 
 /// What is said first in the answer that stands at the front of bytes: none if they are too few or its kind is unknown.
-pub fn read_answer(bytes: &[u8]) -> Option<Said>
+pub fn read_answer(bytes: &[u8]) -> Option<Answer>
     ensures { λ r. ⌜ r ≡ said-of (now (bytes .entry)) ⌝ }
 {
     let [kind, rest @ ..] = bytes else {
         return None;
     };
     match *kind {
-        0 => Some(Said::Done),
+        0 => Some(Answer::Done),
         1 => read_refusal(rest),
         2 => {
             let count = read_number(rest)?;
-            Some(Said::Symbols { count })
+            Some(Answer::Symbols { count })
         }
         3 => {
             let count = read_number(rest)?;
-            Some(Said::Sounds { count })
+            Some(Answer::Sounds { count })
         }
         4 => {
             let number = read_number(rest)?;
-            Some(Said::Number { number })
+            Some(Answer::Number { number })
         }
         _ => None,
     }
 }
 
 /// A refusal's number and place.
-fn read_refusal(bytes: &[u8]) -> Option<Said>
+fn read_refusal(bytes: &[u8]) -> Option<Answer>
     ensures { λ r. ⌜ r ≡ refusal-of (now (bytes .entry)) ⌝ }
 {
     let [number, rest @ ..] = bytes else {
         return None;
     };
     let place = read_number(rest)?;
-    Some(Said::Refused {
+    Some(Answer::Refused {
         number: *number,
         place,
     })

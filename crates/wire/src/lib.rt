@@ -9,7 +9,6 @@ ghost use Rattle.wire.specs.Faithful.{Calls-back, One-row, Place-right, Symbol
 mod answers;
 mod calls;
 
-pub use answers::Said;
 pub use answers::read_answer;
 pub use answers::read_sound;
 pub use answers::read_symbol;

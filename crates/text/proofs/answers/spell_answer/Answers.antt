@@ -9,7 +9,7 @@ use Rattle.std.specs.Of.String.{string-bytes}
 use Rattle.std.specs.Options.{mapped}
 use Rattle.std.proofs.shelf.Lists.{take-rest}
 use Rattle.score.specs.Calls.{symbols, sounds}
-use Rattle.wire.specs.declared.answers.Said.{Said}
+use Rattle.score.specs.declared.Answer.{Answer as Said}
 use Rattle.wire.specs.Reading.{symbol-of, sound-of, row-of, answer-by}
 use Rattle.text.specs.Spelling.{spelled-bytes}
 use Rattle.text.proofs.answers.spell_answer.Needs as need
