@@ -6,7 +6,6 @@ pub mod Stored
 pub mod Held
 pub mod Changes
 pub mod Outcomes
-pub mod Stages
 pub mod Moved
 pub mod Edited
 pub mod Left

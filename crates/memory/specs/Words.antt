@@ -1,13 +1,11 @@
 -- Words that hold a score, and what calls do to them and are answered. Assumes nothing: these are definitions.
 use mathlib.Core.Path.{_≡_}
-use mathlib.Core.Bool.{Bool, true, _&&_, _||_}
+use mathlib.Core.Bool.{Bool, true}
 use mathlib.Core.List.{List}
 use Prim.Native.Nat.{ℕ, _+_, _≤_, _<_}
-use lib.Dec.{eqb}
 use lib.ListN.{length, take, drop, replicate}
-use Rattle.score.specs.Music.{Event, note, silence}
-use Rattle.score.specs.Print.{key}
-use Rattle.score.specs.Calls.{Call, put, cut, change, show, heard-in, how-long, Answer, voice, all-events, empty-voices, turned, after, answer}
+use Rattle.score.specs.Music.{Event}
+use Rattle.score.specs.Calls.{Call, Answer, voice, all-events, empty-voices, turned, after, answer}
 use Rattle.score.specs.Promise.{Good-layout, Engraver, whole}
 use Rattle.wire.specs.Bytes.{answer-bytes, written}
 use Rattle.laws.specs.Rows.{voice-of}
@@ -35,19 +33,6 @@ pub record Spans (w : List ℕ) (v begin count : ℕ) : Type 0 where
   pub counts : count ≡ length (voice (score-of w) v)
   pub within : begin + count ≤ limit-in w
   pub events : events-at w begin count ≡ voice (score-of w) v
-
--- what a stage can do: the calls that it has, and as long as it has no signs only notes that the key alters as they are
-abbrev pub event-in : Bool → ℕ → Event → Bool
-event-in signed k (note p a d) = signed || eqb (key k p) a
-event-in signed k (silence d) = true
-
-unfoldable pub stage-can : (ℕ → Bool) → Bool → ℕ → Call → Bool
-stage-can can signed k (put v i e) = can 0 && event-in signed k e
-stage-can can signed k (cut v i) = can 1
-stage-can can signed k (change v i e) = can 2 && event-in signed k e
-stage-can can signed k (show v b n) = can 3
-stage-can can signed k (heard-in a b) = can 4
-stage-can can signed k (how-long v) = can 5
 
 -- at a stage: the number by which a call is turned away or 0, what it is answered, and the words that it leaves
 unfoldable pub turned-in : (ℕ → Bool) → Bool → List ℕ → Call → ℕ
