@@ -1,8 +1,8 @@
 -- One step along a voice: over silences to the next note. Assumes nothing.
-use mathlib.Core.Path.{_≡_, refl, sym, ap, subst, _∙_}
+use mathlib.Core.Path.{_≡_, sym, ap, subst, _∙_}
 use mathlib.Core.Logic.{inl, inr}
 use mathlib.Core.Bool.{true}
-use mathlib.Core.List.{List, [], _∷_, map}
+use mathlib.Core.List.{List, [], _∷_}
 use Prim.Native.Nat.{ℕ, suc, _+_, _-_, _≤_, _<_}
 use native.Mathlib.Omega.{arith}
 use lib.ListN.{length, getD, take, drop}
@@ -19,7 +19,7 @@ use Rattle.memory.proofs.Scores.{fine-at, fine-parts, fines-voice, short-voice}
 use Rattle.sounds.specs.Spans.{silences, sound-at}
 use Rattle.sounds.specs.Single.{events-yet, heard-yet, Playable}
 use Rattle.sounds.specs.declared.single.Notes.{Notes}
-use Rattle.sounds.proofs.Parts.{voice-drop, length-voice, lasts-voice, total-sum, note-fields, Coming, Silent, coming}
+use Rattle.sounds.proofs.Parts.{voice-drop, length-voice, lasts-voice, total-sum, note-fields, Coming, coming}
 
 -- rows of one length; from index i on, where tick t is, the next note stands at an index and begins at a tick
 module _ (ps xs ds : List ℕ) (i t : ℕ) (lx : length xs ≡ length ps) (ld : length ds ≡ length ps) where
@@ -40,7 +40,7 @@ module _ (ps xs ds : List ℕ) (i t : ℕ) (lx : length xs ≡ length ps) (ld : 
   whole : take (length ps) (Yet i) ≡ Yet i
   whole = take-all (length ps) (Yet i) (omega (arith, long))
 
-  pub ticks-yet : total (Yet i) ≡ sum (drop i ds)
+  ticks-yet : total (Yet i) ≡ sum (drop i ds)
   ticks-yet = ap total (sym whole) ∙ ticks (length ps) ∙ ap sum (take-all (length ps) (drop i ds) (simp length-drop (omega arith)))
 
   module _ (at start : ℕ) (at-is : at ≡ i + K) (start-is : start ≡ t + sum (take K (drop i ds))) where

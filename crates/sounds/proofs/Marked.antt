@@ -1,28 +1,26 @@
 -- The slots and cursors of the voices that have been marked, one voice after the other. Assumes nothing.
 use mathlib.Core.Path.{_≡_, refl, sym, ap, subst, _∙_}
-use mathlib.Core.Logic.{_⊎_, inl, inr}
+use mathlib.Core.Logic.{inl, inr}
 use mathlib.Core.Bool.{true}
 use mathlib.Core.List.{List, [], _∷_, _++_, map}
 use Prim.Native.Nat.{ℕ, zero, suc, _+_, _-_, _*_, _%_, _≤_, _<_}
 use native.Mathlib.Nat.{zero-add}
 use native.Mathlib.Omega.{arith}
-use lib.Dec.{eqb}
 use lib.ListN.{length, getD, set, take, drop, replicate}
 use Rattle.std.specs.shelf.Lists.{sum}
-use Rattle.std.proofs.shelf.Lists.{drop-drop, getD-past, getD-set-same, getD-set-other, length-set, length-take, length-drop, take-map, drop-all}
-use Rattle.std.proofs.shelf.Tests.{cases-eq, cases-lt, eq-eqb}
-use Rattle.score.specs.Music.{pick, Event, lasts, Heard, heard, total, all-fine}
+use Rattle.std.proofs.shelf.Lists.{getD-past, getD-set-same, getD-set-other, length-take, length-drop, take-map, drop-all}
+use Rattle.std.proofs.shelf.Tests.{cases-eq, cases-lt}
+use Rattle.score.specs.Music.{Event, lasts, Heard, heard, total, all-fine}
 use Rattle.score.specs.Calls.{Score, ticks-end, voice, begins, together}
-use Rattle.score.proofs.Picks.{pick-true}
 use Rattle.laws.specs.Rows.{voice-of}
 use Rattle.laws.proofs.Events.{total-three}
 use Rattle.memory.proofs.Scores.{fines-voice, fine-parts, short-voice}
-use Rattle.sounds.specs.Spans.{from-event, until, starts, mixed, passed, note-ticks, ticks-from, grain, bit, begun, marks, score-in, Laid, left, Begin, Ready, all-left}
+use Rattle.sounds.specs.Spans.{from-event, until, starts, mixed, passed, note-ticks, ticks-from, grain, bit, begun, marks, score-in, Laid, left, Ready, all-left}
 use Rattle.sounds.proofs.Bits.{bit-zero, bit-two}
 use Rattle.sounds.proofs.Slots.{Free, Rising, begun-none, marks-other, marks-same}
 use Rattle.sounds.proofs.Turns.{begun-later, begun-here}
 use Rattle.sounds.proofs.Mixed.{mixed-same, together-mixed}
-use Rattle.sounds.proofs.Parts.{voice-drop, voice-take, length-voice, lasts-voice, total-sum, voice-dealt, begins-passed, starts-until, rising-starts, rising-later, length-dealt}
+use Rattle.sounds.proofs.Parts.{voice-drop, voice-take, lasts-voice, total-sum, voice-dealt, begins-passed, starts-until, rising-starts, rising-later, length-dealt}
 
 abbrev Notes : Type 0
 Notes = List (ℕ × Heard)
@@ -31,7 +29,7 @@ not-here : {A : Type 0} (u t m : ℕ) (ms : List ℕ) → bit m u ≡ 1 → begu
 not-here u t m ms e h = let f : t ∷ begun u (t + grain) ms ≡ [] = sym (begun-here u t m ms e) ∙ h in absurd (let z : _≡_ {A = ℕ} 0 1 = cc in omega arith)
 
 -- a voice that begins no note has no bit
-pub begun-free : (u t : ℕ) (ms : List ℕ) → begun u t ms ≡ [] → Free u 0 ms
+begun-free : (u t : ℕ) (ms : List ℕ) → begun u t ms ≡ [] → Free u 0 ms
 unfolding begun
 begun-free u t [] h j l = bit-zero u
 begun-free u t (m ∷ ms) h zero l = elim (bit-two m u) [ inl e ↦ e | inr e ↦ not-here u t m ms e h ]

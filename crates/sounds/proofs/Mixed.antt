@@ -1,13 +1,13 @@
 -- What is heard together is the voices' rows, mixed; and which note of the rows comes next. Assumes nothing.
-use mathlib.Core.Path.{_≡_, refl, sym, ap, _∙_, subst}
+use mathlib.Core.Path.{_≡_, refl, sym, ap, _∙_}
 use mathlib.Core.Logic.{inl, inr}
-use mathlib.Core.List.{List, [], _∷_, _++_, append-nil}
+use mathlib.Core.List.{List, [], _∷_, append-nil}
 use Prim.Native.Nat.{ℕ, zero, suc, _+_, _-_, _≤_, _<_}
 use native.Mathlib.Omega.{arith}
 use lib.Dec.{leb}
 use lib.ListN.{length, getD}
 use Rattle.std.proofs.shelf.Tests.{cases-eq, le-leb, lt-leb}
-use Rattle.score.specs.Music.{pick, Event, Heard, heard}
+use Rattle.score.specs.Music.{Heard, heard}
 use Rattle.score.specs.Calls.{Score, voice, begins, merged, together}
 use Rattle.score.proofs.Picks.{pick-true, pick-false, pick-both}
 use Rattle.sounds.specs.Spans.{mixed}
@@ -31,12 +31,12 @@ unfolding merged
 nil-merged zero ys = refl
 nil-merged (suc n) ys = refl
 
-pub merged-first : (x : ℕ × Heard) (xs ys : Notes) → From (x .1 .start) ys → merged (suc (length xs + length ys)) (x ∷ xs) ys ≡ x ∷ merged (length xs + length ys) xs ys
+merged-first : (x : ℕ × Heard) (xs ys : Notes) → From (x .1 .start) ys → merged (suc (length xs + length ys)) (x ∷ xs) ys ≡ x ∷ merged (length xs + length ys) xs ys
 unfolding merged From
 merged-first x xs [] h = ap (λ (r : Notes). x ∷ r) (sym (merged-nil _ xs))
 merged-first x xs (y ∷ ys) h = pick-true (leb (x .1 .start) (y .1 .start)) _ _ (le-leb _ _ h)
 
-pub merged-second : (x : ℕ × Heard) (xs ys : Notes) → From (suc (x .1 .start)) xs → merged (suc (length xs + length ys)) xs (x ∷ ys) ≡ x ∷ merged (length xs + length ys) xs ys
+merged-second : (x : ℕ × Heard) (xs ys : Notes) → From (suc (x .1 .start)) xs → merged (suc (length xs + length ys)) xs (x ∷ ys) ≡ x ∷ merged (length xs + length ys) xs ys
 unfolding merged From
 merged-second x [] ys h = ap (λ (r : Notes). x ∷ r) (sym (nil-merged _ ys))
 merged-second x (z ∷ xs) ys h = pick-false (leb (z .1 .start) (x .1 .start)) _ _ (lt-leb _ _ h)

@@ -1,5 +1,5 @@
 -- Voices in three rows of words: what is heard of them in a span, and which note comes next. Assumes nothing.
-use mathlib.Core.Path.{_≡_, refl, sym, ap, subst, _∙_}
+use mathlib.Core.Path.{_≡_, refl, sym, ap, _∙_}
 use mathlib.Core.Logic.{_⊎_, inl, inr}
 use mathlib.Core.Bool.{Bool, true, false, _&&_}
 use mathlib.Core.List.{List, [], _∷_, map}
@@ -11,14 +11,16 @@ use lib.ListN.{length, getD, take, drop}
 use Rattle.std.specs.shelf.Lists.{sum}
 use Rattle.std.proofs.shelf.Lists.{drop-drop, take-all}
 use Rattle.std.proofs.shelf.Sums.{sumBy-cons}
-use Rattle.std.proofs.shelf.Tests.{and-parts, and-from, and-left, and-right, cases-lt, le-leb, lt-leb, lt-ltb, le-ltb, ltb-true, ltb-false}
-use Rattle.score.specs.Music.{pick, places, alterations, length-end, Event, note, silence, lasts, tone, Heard, heard, total, fine, all-fine, fine-length}
-use Rattle.score.specs.Calls.{Score, voice, begins}
-use Rattle.score.proofs.Picks.{pick-true, pick-false, pick-both, pick-same}
+use Rattle.std.proofs.shelf.Tests.{and-parts, and-from, and-left, and-right, cases-lt, le-leb, lt-leb, lt-ltb, le-ltb, ltb-true}
+use Rattle.score.specs.Music.{pick, places, alterations, length-end, Event, note, silence, lasts, tone, Heard, heard, total, fine, all-fine}
+use Rattle.score.specs.Calls.{voice, begins}
+use Rattle.score.proofs.Picks.{pick-true, pick-false, pick-both}
 use Rattle.laws.specs.Rows.{event-of, voice-of}
 use Rattle.laws.proofs.Events.{fine-lasts}
+use Rattle.laws.proofs.Rows.{lasts-words}
+use Rattle.memory.proofs.Scores.{fine-fields, fine-place}
 use Rattle.memory.specs.Store.{dealt}
-use Rattle.sounds.specs.Spans.{from-event, until, starts, grain, passed, note-ticks, silences, sound-at}
+use Rattle.sounds.specs.Spans.{until, starts, grain, passed, note-ticks, silences, sound-at}
 use Rattle.sounds.proofs.Slots.{Rising}
 
 abbrev Notes : Type 0
@@ -60,10 +62,6 @@ length-voice (p ∷ ps) [] ds e q = absurd (omega arith)
 length-voice (p ∷ ps) (x ∷ xs) [] e q = absurd (omega arith)
 length-voice (p ∷ ps) (x ∷ xs) (d ∷ ds) e q = ap suc (length-voice ps xs ds (omega arith) (omega arith))
 
-lasts-event : (p a d : ℕ) → lasts (event-of p a d) ≡ d
-unfolding lasts
-lasts-event p a d = pick-both (λ (e : Event). lasts e ≡ d) (eqb p places) (silence d) (note p a d) (λ _. refl) (λ _. refl)
-
 pub lasts-voice : (ps xs ds : List ℕ) → length xs ≡ length ps → length ds ≡ length ps → map lasts (voice-of ps xs ds) ≡ ds
 unfolding voice-of
 lasts-voice [] xs [] p q = refl
@@ -71,7 +69,7 @@ lasts-voice [] xs (d ∷ ds) p q = absurd (omega arith)
 lasts-voice (p ∷ ps) [] ds e q = absurd (omega arith)
 lasts-voice (p ∷ ps) (x ∷ xs) [] e q = absurd (omega arith)
 lasts-voice (p ∷ ps) (x ∷ xs) (d ∷ ds) e q =
-    let a = lasts-event p x d in
+    let a = lasts-words p x d in
     let b = lasts-voice ps xs ds (omega arith) (omega arith) in cc
 
 pub total-sum : (es : List Event) → total es ≡ sum (map lasts es)
@@ -90,12 +88,8 @@ total-take (suc i) k (e ∷ es) =
 
 -- a note that can be written has fields in range
 pub note-fields : (p a d : ℕ) → fine (note p a d) ≡ true → (p < places) × (a < alterations) × (d < length-end)
-unfolding fine
-note-fields p a d h =
-    let x = and-parts (ltb p places && ltb a alterations) (fine-length d) h in
-    let y = and-parts (ltb p places) (ltb a alterations) (x .0) in
-    let z = and-parts (ltb 0 d) (ltb d length-end) (and-parts (ltb 0 d && ltb d length-end) _ (x .1) .0) in
-    (ltb-true p places (y .0), ltb-true a alterations (y .1), ltb-true d length-end (z .1))
+unfolding lasts
+note-fields p a d h = let f = fine-fields (note p a d) h in (fine-place p a d h, f .1, f .3)
 
 -- a voice among those that are dealt out
 pub voice-dealt : (ns : List ℕ) (es : List Event) (u : ℕ) → voice (dealt ns es) u ≡ take (getD ns u 0) (drop (sum (take u ns)) es)
@@ -193,7 +187,6 @@ starts-until u e t (p ∷ ps) (x ∷ xs) (d ∷ ds) h = go (eqb p places) (start
           | inr l ↦ ap starts (until-late u e (t + d) es (omega arith)) ∙ sym (pick-false (ltb t e) _ _ (le-ltb _ _ l))
         ]
     go false ih =
-        let both : List ℕ → Notes → Type 0 = λ ts r. starts r ≡ ts in
         elim (cases-lt t e) [
           | inl l ↦ ap starts (pick-true (ltb t e) _ _ (lt-ltb _ _ l)) ∙ ap (λ (r : List ℕ). t ∷ r) ih ∙ sym (pick-true (ltb t e) _ _ (lt-ltb _ _ l))
           | inr l ↦ ap starts (pick-false (ltb t e) _ _ (le-ltb _ _ l)) ∙ sym (pick-false (ltb t e) _ _ (le-ltb _ _ l))

@@ -1,19 +1,18 @@
 -- What slots say of each voice: when it begins a note. Assumes nothing.
 use mathlib.Core.Path.{_≡_, refl, sym, ap, subst, _∙_}
 use mathlib.Core.Bool.{Bool, true, false}
-use mathlib.Core.Logic.{inl, inr}
 use mathlib.Core.List.{List, [], _∷_, _++_, append-assoc, append-nil}
 use Prim.Native.Nat.{ℕ, zero, suc, _+_, _-_, _*_, _/_, _%_, _^_, _≤_, _<_}
 use native.Mathlib.Omega.{arith}
-use lib.Bits.{bitOr, bitXor}
+use lib.Bits.{bitOr}
 use lib.Dec.{eqb}
-use lib.ListN.{length, getD, set, replicate}
-use Rattle.std.proofs.shelf.Lists.{getD-set-same, getD-set-other, length-set}
-use Rattle.std.proofs.shelf.Tests.{cases-eq, eq-eqb, ne-eqb}
+use lib.ListN.{length, getD, set}
+use Rattle.std.proofs.shelf.Lists.{getD-set-other, length-set}
+use Rattle.std.proofs.shelf.Tests.{eq-eqb, ne-eqb}
 use Rattle.score.specs.Music.{pick}
-use Rattle.score.proofs.Picks.{pick-true, pick-false, pick-both}
+use Rattle.score.proofs.Picks.{pick-true, pick-false}
 use Rattle.sounds.specs.Spans.{grain, bit, begun, marks}
-use Rattle.sounds.proofs.Bits.{bit-two, bit-zero, put-same, put-other, flip-same, flip-other, Lowest}
+use Rattle.sounds.proofs.Bits.{put-same, put-other}
 
 -- ticks that rise from t on up to before e, each the tick of a slot
 unfoldable pub Rising : ℕ → ℕ → List ℕ → Type 0
@@ -32,14 +31,14 @@ begun-none u t (m ∷ ms) h =
     pick-false (eqb (bit m u) 1) _ _ (ne-eqb _ _ (λ e. omega arith)) ∙ begun-none u (t + grain) ms (λ j l. h (suc j) (omega arith))
 
 -- a word of which voice u's bit stays
-pub begun-other : (u t k w : ℕ) (ms : List ℕ) → bit w u ≡ bit (getD ms k 0) u → begun u t (set ms k w) ≡ begun u t ms
+begun-other : (u t k w : ℕ) (ms : List ℕ) → bit w u ≡ bit (getD ms k 0) u → begun u t (set ms k w) ≡ begun u t ms
 unfolding begun
 begun-other u t k w [] h = refl
 begun-other u t zero w (m ∷ ms) h = ap (λ (n : ℕ). pick (eqb n 1) (t ∷ begun u (t + grain) ms) (begun u (t + grain) ms)) h
 begun-other u t (suc k) w (m ∷ ms) h = ap (λ (r : List ℕ). pick (eqb (bit m u) 1) (t ∷ r) r) (begun-other u (t + grain) k w ms h)
 
 -- voice u's bit is set behind all others of it
-pub begun-set : (u t k w : ℕ) (ms : List ℕ) → k < length ms → Free u k ms → bit w u ≡ 1 → begun u t (set ms k w) ≡ begun u t ms ++ ((t + grain * k) ∷ [])
+begun-set : (u t k w : ℕ) (ms : List ℕ) → k < length ms → Free u k ms → bit w u ≡ 1 → begun u t (set ms k w) ≡ begun u t ms ++ ((t + grain * k) ∷ [])
 unfolding begun
 begun-set u t k w [] l h e = absurd (omega arith)
 begun-set u t zero w (m ∷ ms) l h e =
@@ -61,11 +60,6 @@ begun-set u t (suc k) w (m ∷ ms) l h e =
     go false = refl
 
 -- the slots after voice u was marked
-pub length-marks : (u first : ℕ) (ts ms : List ℕ) → length (marks u first ts ms) ≡ length ms
-unfolding marks
-length-marks u first [] ms = refl
-length-marks u first (t ∷ ts) ms = length-marks u first ts _ ∙ length-set ms _ _
-
 pub marks-other : (u first w t : ℕ) (ts ms : List ℕ) → (w ≡ u → ⊥) → begun w t (marks u first ts ms) ≡ begun w t ms
 unfolding marks
 marks-other u first w t [] ms ne = refl

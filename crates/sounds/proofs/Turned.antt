@@ -1,23 +1,20 @@
 -- One turn over the rows of words: the note that the lowest bit of a slot tells of, and what is left behind it. Assumes nothing.
-use mathlib.Core.Path.{_≡_, refl, sym, ap, subst, _∙_}
-use mathlib.Core.Logic.{_⊎_, inl, inr}
-use mathlib.Core.Bool.{true, _&&_}
+use mathlib.Core.Path.{_≡_, sym, ap, subst, _∙_}
+use mathlib.Core.Logic.{inl, inr}
+use mathlib.Core.Bool.{true}
 use mathlib.Core.List.{List, [], _∷_}
-use Prim.Native.Nat.{ℕ, zero, suc, _+_, _-_, _^_, _≤_, _<_}
+use Prim.Native.Nat.{ℕ, suc, _+_, _-_, _^_, _≤_, _<_}
 use native.Mathlib.Omega.{arith}
 use lib.Bits.{bitXor}
-use lib.Dec.{ltb}
 use lib.ListN.{length, getD, set, take, drop}
 use Rattle.std.specs.shelf.Lists.{sum}
-use Rattle.std.proofs.shelf.Lists.{drop-drop, getD-drop, getD-past, getD-set-same, getD-set-other, length-take, length-drop, take-all, drop-all}
-use Rattle.std.proofs.shelf.Tests.{and-parts, cases-eq, cases-lt, ltb-true}
-use Rattle.score.specs.Music.{places, alterations, length-end, Event, note, silence, lasts, tone, Heard, heard, total, fine, all-fine, fine-length}
-use Rattle.score.specs.Calls.{Score, voice}
+use Rattle.std.proofs.shelf.Lists.{drop-drop, getD-drop, getD-past, getD-set-same, getD-set-other, length-take, length-drop, drop-all}
+use Rattle.std.proofs.shelf.Tests.{cases-eq, cases-lt}
+use Rattle.score.specs.Music.{places, alterations, length-end, Event, note, silence, Heard, heard, total, fine, all-fine}
+use Rattle.score.specs.Calls.{voice}
 use Rattle.laws.specs.Rows.{voice-of}
-use Rattle.laws.proofs.Events.{total-++}
-use Rattle.memory.specs.Store.{dealt, all-fines}
 use Rattle.memory.proofs.Scores.{fine-at, fines-voice, fine-parts}
-use Rattle.sounds.specs.Spans.{from-event, until, mixed, silences, grain, begun, sound-at, score-in, Laid, left, Begin, Ready, all-left}
+use Rattle.sounds.specs.Spans.{from-event, until, silences, grain, begun, sound-at, score-in, Laid, left, Ready, all-left}
 use Rattle.sounds.proofs.Bits.{Lowest}
 use Rattle.sounds.proofs.Turns.{First, turn-first, turn-mixed, turn-begin}
 use Rattle.sounds.proofs.Parts.{voice-drop, length-voice, voice-dealt, length-dealt, drop-take-sub, total-take, note-fields, Next, next-heard}

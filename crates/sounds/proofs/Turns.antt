@@ -6,7 +6,7 @@ use Prim.Native.Nat.{ℕ, suc, _+_, _^_, _≤_, _<_}
 use native.Mathlib.Omega.{arith}
 use lib.Bits.{bitXor}
 use lib.Dec.{eqb}
-use Rattle.std.proofs.shelf.Tests.{cases-eq, cases-lt, eq-eqb, ne-eqb}
+use Rattle.std.proofs.shelf.Tests.{cases-eq, eq-eqb, ne-eqb}
 use Rattle.score.specs.Music.{pick, Heard}
 use Rattle.score.proofs.Picks.{pick-true, pick-false, pick-both}
 use Rattle.sounds.specs.Spans.{starts, mixed, grain, bit, begun, Begin}

@@ -1,22 +1,17 @@
 -- The score in lent words is the one in their rows; and a span of ticks is one of slots. Assumes nothing.
-use mathlib.Core.Path.{_≡_, refl, sym, ap, subst, _∙_}
-use mathlib.Core.Bool.{true, _&&_}
-use mathlib.Core.List.{List, [], _∷_, _++_}
-use Prim.Native.Nat.{ℕ, zero, suc, _+_, _-_, _*_, _/_, _%_, _≤_, _<_, min}
+use mathlib.Core.Path.{_≡_, refl, sym, ap, _∙_}
+use mathlib.Core.Bool.{true}
+use mathlib.Core.List.{List}
+use Prim.Native.Nat.{ℕ, _+_, _-_, _*_, _≤_}
 use native.Mathlib.Omega.{arith}
-use lib.Dec.{leb, ltb}
-use lib.ListN.{length, getD, take, drop, replicate}
-use Rattle.std.specs.shelf.Lists.{sum, between}
-use Rattle.std.proofs.shelf.Lists.{drop-drop, length-take, length-take-le, length-drop, length-append, length-replicate, take-replicate}
-use Rattle.score.specs.Music.{Event, note, silence, Heard, heard}
-use Rattle.score.specs.Calls.{Score, voice, all-events, none-too-long, begins, merged, together}
-use Rattle.score.proofs.Picks.{pick-both}
-use Rattle.laws.specs.Rows.{voice-of}
-use Rattle.memory.specs.Store.{dealt, parted, voices-in, limit-in, places-from, alterations-from, lengths-from, score-of, all-fines}
+use lib.ListN.{length, take, drop, replicate}
+use Rattle.std.proofs.shelf.Lists.{drop-drop, length-take, length-take-le, length-drop, length-replicate, take-replicate}
+use Rattle.score.specs.Calls.{Score, voice, none-too-long, together}
+use Rattle.memory.specs.Store.{parted, voices-in, limit-in, places-from, alterations-from, lengths-from, score-of, all-fines}
 use Rattle.memory.specs.Words.{Holds}
 use Rattle.memory.proofs.Scores.{fines-voice}
 use Rattle.memory.proofs.Held.{counts-sum, all-before}
-use Rattle.sounds.specs.Spans.{grain, mixed, score-in, Laid}
+use Rattle.sounds.specs.Spans.{grain, score-in, Laid}
 use Rattle.sounds.proofs.Mixed.{mixed-same, together-mixed}
 use Rattle.sounds.proofs.Parts.{up, begins-slots}
 
@@ -68,35 +63,9 @@ module _ (w : List ℕ) (h : Holds w) (p q r : ℕ) (ps : p ≡ places-from w) (
         fines = ap all-fines rows-score ∙ k .fines;
       }
 
--- ---- how many notes there are
-
-length-merged : (n : ℕ) (xs ys : List (ℕ × Heard)) → length (merged n xs ys) ≡ length xs + length ys
-unfolding merged
-length-merged zero xs ys = length-append xs ys
-length-merged (suc n) [] ys = omega arith
-length-merged (suc n) (x ∷ xs) [] = omega arith
-length-merged (suc n) (x ∷ xs) (y ∷ ys) =
-    let a = length-merged n xs (y ∷ ys) in
-    let b = length-merged n (x ∷ xs) ys in
-    pick-both (λ (zs : List (ℕ × Heard)). length zs ≡ length (x ∷ xs) + length (y ∷ ys)) (leb (x .1 .start) (y .1 .start)) _ _ (λ _. omega arith) (λ _. omega arith)
-
-length-begins : (v a b : ℕ) (es : List Event) (t : ℕ) → length (begins v a b (heard es t)) ≤ length es
-unfolding begins heard
-length-begins v a b [] t = omega arith
-length-begins v a b (silence d ∷ es) t = omega (arith, length-begins v a b es (t + d))
-length-begins v a b (note p q d ∷ es) t =
-    let ih = length-begins v a b es (t + d) in
-    pick-both (λ (zs : List (ℕ × Heard)). length zs ≤ suc (length es)) (leb a t && ltb t b) _ _ (λ _. omega arith) (λ _. omega arith)
-
-pub together-few : (s : Score) (v a b : ℕ) → length (together s v a b) ≤ all-events s
-unfolding together all-events
-together-few [] v a b = omega arith
-together-few (e ∷ es) v a b =
-    omega (arith, length-merged (length (begins v a b (heard e 0)) + length (together es (suc v) a b)) (begins v a b (heard e 0)) (together es (suc v) a b), length-begins v a b e 0, together-few es (suc v) a b)
-
 -- ---- slots
 
-pub together-slots : (s : Score) (a b : ℕ) → all-fines s ≡ true → together s 0 a b ≡ together s 0 (grain * up a) (grain * (up a + (up b - up a)))
+together-slots : (s : Score) (a b : ℕ) → all-fines s ≡ true → together s 0 a b ≡ together s 0 (grain * up a) (grain * (up a + (up b - up a)))
 together-slots s a b f =
     together-mixed s a b
     ∙ mixed-same _ _ (length s) 0 (λ u _. begins-slots u a b 0 (voice s u) (fines-voice s u f) refl)

@@ -1,17 +1,17 @@
 -- What is written of all voices so far and what is still left of them come to the same in every turn. Assumes nothing.
 use mathlib.Core.Path.{_≡_, refl, sym, ap, subst, _∙_}
 use mathlib.Core.List.{List, [], _∷_, _++_}
-use Prim.Native.Nat.{ℕ, zero, suc, _+_, _-_, _*_, _^_, _≤_, _<_}
+use Prim.Native.Nat.{ℕ, _+_, _-_, _*_, _^_, _≤_, _<_}
 use native.Mathlib.Omega.{arith}
-use borrow.Rule.Slice.PartMut.{putMid, postOf}
+use borrow.Rule.Slice.PartMut.{putMid}
 use lib.Bits.{bitXor}
 use lib.Count.{trailingZeros}
 use lib.ListN.{length, getD, set, take, drop}
-use Rattle.std.proofs.shelf.Lists.{append-assoc, append-nil, length-append, length-take-le, length-drop, take-append-drop, take-at, take-rest, drop-at, drop-all, drop-drop, drop-more}
+use Rattle.std.proofs.shelf.Lists.{append-assoc, append-nil, length-append, length-take-le, take-append-drop, take-at, drop-at, drop-drop}
 use Rattle.score.specs.Music.{Heard}
 use Rattle.wire.specs.Bytes.{sound-bytes, each, sounds-bytes}
 use Rattle.wire.proofs.Written.{put-rest}
-use Rattle.sounds.specs.Spans.{grain, mixed, silences, sound-at, Laid, left, Begin, Ready, all-left}
+use Rattle.sounds.specs.Spans.{grain, silences, sound-at, Laid, left, Begin, Ready, all-left}
 use Rattle.sounds.proofs.Bits.{trailing-lowest}
 use Rattle.sounds.proofs.Turns.{begin-later, begin-none}
 use Rattle.sounds.proofs.Turned.{Turned, turned}

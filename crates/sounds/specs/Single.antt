@@ -1,11 +1,13 @@
 -- What is heard of one voice, note by note. Assumes nothing: these are definitions.
 use mathlib.Core.Path.{_≡_}
 use mathlib.Core.Bool.{true}
-use mathlib.Core.List.{List, [], _∷_}
-use Prim.Native.Nat.{ℕ, _+_, _<_}
+use mathlib.Core.List.{List, [], _∷_, map}
+use Prim.Native.Nat.{_+_, _<_}
 use lib.ListN.{length, drop}
+use Rattle.std.specs.Iters.{yields-then}
 use Rattle.std.specs.Options.{Cases}
 use Rattle.std.specs.declared.option.Option.{Option}
+use Rattle.std.specs.declared.option.Option.the-variants.{None}
 use Rattle.score.specs.declared.Sound.{Sound}
 use Rattle.score.specs.Meaning.{sound-meant}
 use Rattle.score.specs.Music.{Event, Heard, heard, total, all-fine}
@@ -31,3 +33,7 @@ pub record Playable (n : Notes) : Type 0 where
 pub record Steps (n : Notes) (r : Option Sound) (m : Notes) : Type 0 where
   pub same-voice : m .voice ≡ n .voice
   pub gives : Cases r (heard-yet n ≡ []) (λ x. ((x .voice) ≡ n .voice) × (heard-yet n ≡ sound-meant x .1 ∷ heard-yet m))
+
+-- what comes of calls until no note comes is all that is heard yet
+abbrev pub Notes-heard : Type 0
+Notes-heard = (n m : Notes) (xs : List Sound) → yields-then Steps n xs None m → map (λ x. sound-meant x .1) xs ≡ heard-yet n

@@ -1,4 +1,6 @@
 //! What is heard of a score: of one voice, and of all voices together in a span of time.
+//!
+//! The contract of `heard_in` cites `together`, the definition of which crate `laws` proves that it is in order and that nothing of any voice is lost.
 ghost use mathlib.Core.List.{_++_};
 ghost use mathlib.Core.Path.{_≡_};
 ghost use Prim.Native.Nat.{_+_, _*_, _^_, _<_, _≤_};
@@ -17,7 +19,9 @@ mod single;
 use keys::tone;
 use score::Sound;
 pub use single::Notes;
+pub use single::NotesIterator;
 pub use single::heard;
+pub use single::notes_heard;
 use voices::Regions;
 use voices::regions_of;
 use wire::write_sound;

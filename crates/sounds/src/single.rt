@@ -9,7 +9,7 @@ ghost use Rattle.score.specs.Calls.{voice as voice-in};
 ghost use Rattle.memory.specs.Store.{voices-in, score-of};
 ghost use Rattle.memory.specs.Words.{Holds};
 ghost use Rattle.sounds.specs.Spans.{silences};
-ghost use Rattle.sounds.specs.Single.{Playable, heard-yet, Steps};
+ghost use Rattle.sounds.specs.Single.{Playable, heard-yet, Steps, Notes-heard};
 use super::SILENCE;
 use keys::tone;
 use score::Sound;
@@ -93,3 +93,8 @@ pub fn heard(words: &[u32], voice: u32) -> Option<Notes<'_>>
         tick: 0,
     })
 }
+
+/// The notes that come until none comes are all that is heard of the voice.
+pub fn notes_heard()
+    ensures { λ _. ⌜ Notes-heard ⌝ }
+{}

@@ -1,14 +1,15 @@
 -- The slots of the span tell what is heard in it.
-use mathlib.Core.Path.{_≡_, sym, ap, subst, _∙_}
+use mathlib.Core.Path.{sym, ap, _∙_}
 use mathlib.Core.List.{List, _++_}
-use Prim.Native.Nat.{ℕ, _+_, _-_, _*_, _≤_, _<_}
+use Prim.Native.Nat.{ℕ, _*_, _≤_}
 use native.Mathlib.Omega.{arith}
 use lib.ListN.{length, drop, replicate}
 use Rattle.score.specs.Music.{Heard}
-use Rattle.score.specs.Calls.{Score, all-events}
+use Rattle.score.specs.Calls.{all-events}
 use Rattle.wire.specs.Bytes.{sounds-bytes}
 use Rattle.memory.specs.Store.{score-of}
-use Rattle.sounds.proofs.Whole.{together-few, slots-empty, slots-many, span-heard}
+use Rattle.memory.proofs.Fields.{few-together}
+use Rattle.sounds.proofs.Whole.{slots-empty, slots-many, span-heard}
 use Rattle.sounds.proofs.heard_in.Needs as need
 
 pub write-span-requires : need.write-span-requires
@@ -31,5 +32,5 @@ returns c =
     record {
       wrote = c .write-span .ensures .wrote ∙ ap (λ (xs : List (ℕ × Heard)). sounds-bytes xs ++ drop (8 * c .write-span .result) (c .args .out .now)) heard;
       many = many;
-      few = omega (arith, many, together-few (score-of (c .args .words .now)) 0 (c .args .from) (c .args .to), c .pre .0 .kept .fitting);
+      few = omega (arith, many, few-together (score-of (c .args .words .now)) 0 (c .args .from) (c .args .to), c .pre .0 .kept .fitting);
     }

@@ -1,11 +1,10 @@
 -- Each turn marks one note, or passes over a silence.
-use mathlib.Core.Path.{_≡_, sym, ap, _∙_}
-use mathlib.Core.List.{List}
-use Prim.Native.Nat.{ℕ, _+_, _-_, _*_, _/_, _%_, _^_, _<_, _≤_}
+use mathlib.Core.Path.{_≡_, sym, _∙_}
+use Prim.Native.Nat.{ℕ, _+_, _*_, _%_, _^_, _<_}
 use native.Mathlib.Omega.{arith}
 use lib.ListN.{length}
 use Rattle.std.proofs.shelf.Bits.{one-shl}
-use Rattle.sounds.specs.Spans.{grain, marks}
+use Rattle.sounds.specs.Spans.{grain}
 use Rattle.sounds.proofs.Walks.{ticks-more, ticks-late, ticks-none, marks-silence, marks-note, marks-none}
 use Rattle.sounds.proofs.mark.Needs as need
 use Rattle.sounds.proofs.mark.Needs.{then-places-index-ne-SILENCE, else-places-index-ne-SILENCE}

@@ -1,10 +1,9 @@
 -- The events from the first slot on are the rest of both rows.
-use mathlib.Core.Path.{_≡_, sym, ap, subst, _∙_}
+use mathlib.Core.Path.{_≡_, ap, _∙_}
 use mathlib.Core.List.{List}
-use Prim.Native.Nat.{ℕ, _+_, _-_, _*_, _≤_, _<_}
+use Prim.Native.Nat.{ℕ, _+_, _-_, _*_}
 use native.Mathlib.Omega.{arith}
 use lib.ListN.{length, take, drop}
-use Rattle.std.specs.shelf.Lists.{sum}
 use Rattle.std.proofs.shelf.Lists.{take-rest, length-drop}
 use Rattle.std.proofs.shelf.Sums.{sumBy-take-drop}
 use Rattle.sounds.specs.Spans.{grain, note-ticks, marks}

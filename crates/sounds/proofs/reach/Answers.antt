@@ -1,6 +1,5 @@
 -- Each turn passes over one event; the loop ends at the first that begins late enough, or behind the last.
 use mathlib.Core.Path.{_≡_, sym, ap, _∙_}
-use mathlib.Core.List.{List}
 use Prim.Native.Nat.{ℕ}
 use native.Mathlib.Omega.{arith}
 use lib.ListN.{length, take, drop}

@@ -1,15 +1,13 @@
 -- Each turn writes one note; the lowest bit of the slot says whose.
-use mathlib.Core.Path.{_≡_, refl, sym, ap, subst, _∙_}
-use mathlib.Core.List.{List, _∷_}
-use Prim.Native.Nat.{ℕ, suc, _+_, _-_, _*_, _%_, _^_, _≤_, _<_}
+use mathlib.Core.Path.{refl, ap, subst}
+use Prim.Native.Nat.{_+_, _*_, _<_}
 use native.Mathlib.Omega.{arith}
-use lib.Bits.{bitXor}
 use lib.Count.{trailingZeros}
-use lib.ListN.{length, getD, take, drop}
+use lib.ListN.{length}
 use Rattle.std.proofs.shelf.Bits.{one-shl, xor-lt, pow-below}
 use Rattle.std.proofs.shelf.Lists.{drop-more, drop-all, take-rest, length-drop}
 use Rattle.sounds.specs.Spans.{grain, Ready}
-use Rattle.sounds.proofs.Writing.{Writing, writing-start, writing-next, writing-room, writing-turn, writing-slot, writing-all}
+use Rattle.sounds.proofs.Writing.{writing-start, writing-next, writing-room, writing-turn, writing-slot, writing-all}
 use Rattle.sounds.proofs.write_slots.Needs as need
 
 pub loop-voices-holds : need.loop-voices-holds

@@ -1,8 +1,8 @@
 -- Each turn passes over one silence.
-use mathlib.Core.Path.{_≡_, sym, _∙_}
-use Prim.Native.Nat.{_+_, _<_}
+use mathlib.Core.Path.{sym, _∙_}
+use Prim.Native.Nat.{_<_}
 use native.Mathlib.Omega.{arith}
-use lib.ListN.{length, drop}
+use lib.ListN.{length}
 use Rattle.sounds.proofs.Walks.{silences-more, silences-none, silences-all, silent-more, silent-none, rest-more}
 use Rattle.sounds.proofs.single.pass_silences.Needs as need
 

@@ -1,12 +1,7 @@
 -- The note that comes is the next one behind the silences.
-use mathlib.Core.Path.{_≡_, refl, sym, ap, _∙_}
-use mathlib.Core.List.{List, _∷_}
-use Prim.Native.Nat.{ℕ, _+_, _-_, _≤_, _<_}
+use mathlib.Core.Path.{refl}
 use native.Mathlib.Omega.{arith}
-use lib.ListN.{length, getD, drop}
-use Rattle.score.specs.Music.{Heard}
-use Rattle.sounds.specs.Single.{heard-yet}
-use Rattle.sounds.proofs.Line.{yet-short, over, Then, Stepped, stepped}
+use Rattle.sounds.proofs.Line.{yet-short, over, stepped}
 use Rattle.sounds.proofs.single.NotesIterator.next.Needs as need
 
 pub pass-silences-index-requires : need.pass-silences-index-requires
