@@ -1,6 +1,6 @@
 -- What is owed, one turn of each loop later: of values, of bars and of events. Assumes nothing.
-use mathlib.Core.Path.{_≡_, refl, sym, ap, ap₂, _∙_, subst}
-use mathlib.Core.Bool.{Bool, true, false}
+use mathlib.Core.Path.{_≡_, sym, ap, ap₂, _∙_, subst}
+use mathlib.Core.Bool.{true}
 use mathlib.Core.List.{List, [], _∷_}
 use Prim.Native.Nat.{ℕ, zero, suc, _+_, _*_, _-_, _%_, min, _≤_, _<_}
 use native.Mathlib.Omega.{arith}
@@ -9,11 +9,11 @@ use lib.ListN.{length, getD, set}
 use Rattle.std.proofs.shelf.Lists.{set-getD}
 use Rattle.std.proofs.shelf.Tests.{eq-eqb, ne-eqb, le-leb, lt-leb}
 use Rattle.score.specs.Music.{pick, places, Event, note, silence, all-fine}
-use Rattle.score.specs.Print.{Symbol, bar, key, now, all-values, largest, lesser, print, printed, from-bar, so-many}
+use Rattle.score.specs.Print.{Symbol, bar, key, now, all-values, largest, lesser, print, so-many}
 use Rattle.score.proofs.Picks.{pick-true, pick-false}
 use Rattle.laws.specs.Owed.{one, owed, rest-from}
 use Rattle.laws.specs.Rows.{event-of, voice-of}
-use Rattle.laws.proofs.Laid.{lesser-both, lesser-less}
+use Rattle.laws.proofs.Laid.{lesser-less}
 use Rattle.laws.proofs.Owing.{begins-note, begins-rest, ended, owed-line, owed-value, so-many-one, so-many-line, so-many-none, so-many-end}
 use Rattle.laws.proofs.Rows.{rest-of, voice-at, voice-end, fine-from, Words, words-at, lasts-words, place-words}
 use Rattle.laws.proofs.Walk.{from-bar-walks, rest-none}

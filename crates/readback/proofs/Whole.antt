@@ -1,19 +1,19 @@
 -- A voice that is printed whole can be played, and who plays it hears what the voice means. Assumes nothing.
 use mathlib.Core.Path.{_≡_, refl, sym, ap, ap₂, _∙_, subst}
 use mathlib.Core.Logic.{_⊎_, inl, inr}
-use mathlib.Core.Bool.{Bool, true, _&&_}
+use mathlib.Core.Bool.{true}
 use mathlib.Core.List.{List, [], _∷_, _++_}
 use Prim.Native.Nat.{ℕ, zero, suc, _+_, _-_, _*_, _/_, _%_, _^_, _≤_, _<_}
 use native.Mathlib.Omega.{arith}
 use native.Mathlib.Nat.{mul-le-mul-left, mul-le-mul-right, div-lt-iff-lt-mul, div-le-self}
-use lib.Dec.{eqb, leb, ltb}
+use lib.Dec.{eqb}
 use lib.ListN.{length, take, drop}
 use Rattle.std.specs.declared.result.Result.{Result}
 use Rattle.std.specs.declared.result.Result.the-variants.{Ok}
 use Rattle.std.proofs.shelf.Lists.{take-at}
 use Rattle.std.proofs.shelf.Tests.{and-parts, and-from, ltb-true, lt-ltb, le-ltb, le-leb, cases-lt}
 use Rattle.score.specs.declared.Refusal.{Refusal}
-use Rattle.score.specs.Music.{pick, places, alterations, Event, note, silence, Heard, heard, total, fine, all-fine}
+use Rattle.score.specs.Music.{places, alterations, Event, note, silence, Heard, heard, total, fine, all-fine}
 use Rattle.score.specs.Print.{Symbol, bar, head, rest, key, Chunk, value, line, chunks, heads, rests, print, printed, read-from, from-bar, so-many}
 use Rattle.score.proofs.Picks.{pick-false, pick-both}
 use Rattle.laws.specs.Owed.{sign-of}

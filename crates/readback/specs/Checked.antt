@@ -1,6 +1,5 @@
 -- Which voices and layouts are read back, and by which refusal the others are turned away. Assumes nothing: these are definitions.
 use mathlib.Core.Bool.{Bool, _&&_}
-use mathlib.Core.List.{List}
 use Prim.Native.Nat.{ℕ, _+_, _*_, _/_, _%_}
 use lib.Dec.{eqb, leb, ltb}
 use lib.ListN.{length}

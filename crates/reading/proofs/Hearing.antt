@@ -1,9 +1,9 @@
 -- Notes that were written down so far, and what is still to be heard: together they are all. Assumes nothing.
 use mathlib.Core.Path.{_≡_, refl, sym, ap, _∙_}
 use mathlib.Core.List.{List, [], _∷_, _++_, map, append-assoc}
-use Prim.Native.Nat.{ℕ, _+_, _-_, _*_, _≤_, _<_}
+use Prim.Native.Nat.{ℕ, _+_, _-_, _≤_}
 use native.Mathlib.Omega.{arith}
-use borrow.Rule.Slice.PartMut.{putMid, postOf}
+use borrow.Rule.Slice.PartMut.{putMid}
 use lib.ListN.{length, take, drop, length-append}
 use Rattle.std.proofs.shelf.Lists.{append-nil, drop-drop, drop-at, take-at, length-take-le, length-map, map-append}
 use Rattle.std.specs.declared.option.Option.{Option}

@@ -1,16 +1,16 @@
 -- The first symbol of a row of bytes, and those behind it. Assumes nothing.
-use mathlib.Core.Path.{_≡_, refl, sym, ap, _∙_, subst}
+use mathlib.Core.Path.{_≡_, refl, sym, ap, _∙_}
 use mathlib.Core.Bool.{Bool, true, false, _&&_}
 use mathlib.Core.List.{List, [], _∷_, _++_}
-use Prim.Native.Nat.{ℕ, _+_, _*_, _≤_, _<_}
+use Prim.Native.Nat.{ℕ, _≤_}
 use native.Mathlib.Omega.{arith}
-use lib.ListN.{length, drop, getD}
+use lib.ListN.{length, drop}
 use Rattle.std.proofs.shelf.Lists.{drop-at}
 use Rattle.std.proofs.shelf.Tests.{and-parts}
 use Rattle.std.specs.declared.option.Option.{Option}
 use Rattle.std.specs.declared.option.Option.the-variants.{Some, None}
 use Rattle.score.specs.Music.{pick}
-use Rattle.score.specs.Print.{Symbol, bar, head, rest}
+use Rattle.score.specs.Print.{Symbol}
 use Rattle.score.proofs.Picks.{pick-true}
 use Rattle.wire.specs.Bytes.{symbol-bytes, symbols-bytes, each}
 use Rattle.wire.specs.Reading.{of-two, symbol-by, symbol-of}

@@ -12,7 +12,7 @@ use Rattle.score.specs.Print.{Symbol, bar, head, rest, Held, nothing, held, let
 use Rattle.score.proofs.Picks.{pick-false}
 use Rattle.keys.specs.Held.{key-row, held-in}
 use Rattle.keys.proofs.Holding.{held-at, held-key, held-set}
-use Rattle.reading.specs.Player.{State, can-play, said, then-held, note-of, after, after-head, ends, ends-head}
+use Rattle.reading.specs.Player.{State, can-play, said, then-held, after, after-head, ends, ends-head}
 
 -- what is still to be heard by a player
 unfoldable pub to-hear : ℕ → List Symbol → State → List Heard

@@ -6,15 +6,17 @@ ghost use Prim.Native.Nat.{_+_, _*_, _≤_, _<_, _^_};
 ghost use lib.ListN.{length, take, drop};
 ghost use Rattle.std.specs.Options.{mapped};
 ghost use Rattle.score.specs.Meaning.{symbol-meant};
-ghost use Rattle.score.specs.Music.{pick, places, tone as tone-of};
+ghost use Rattle.score.specs.Music.{pick, places};
 ghost use Rattle.score.specs.Print.{nothing, let-go, goes-on, longer as made-longer, read-from};
 ghost use Rattle.wire.specs.Reading.{symbol-of};
+ghost use Rattle.reading.specs.Few.{Few-notes};
 ghost use Rattle.reading.specs.Keeps.{held-meant, long-of};
 ghost use Rattle.reading.specs.Player.{said, then-held, after, after-head, ends, ends-head, lasts, can-play};
 ghost use Rattle.reading.specs.Symbols.{playable, symbols-of, outcome};
 ghost use Rattle.reading.specs.Told.{state, heard-meant, notes, listed};
 use keys::PLACES;
 use keys::begin_bar;
+use keys::tone;
 use score::Symbol;
 use wire::read_symbol;
 
@@ -22,9 +24,6 @@ pub mod player;
 
 use player::Held;
 use player::Player;
-
-/// Half tones from c up to each step of an octave.
-const HALF_TONES: [u64; 7] = [0, 2, 4, 5, 7, 9, 11];
 
 /// The last sign: one more than the last alteration.
 const MOST_SIGNS: u8 = 5;
@@ -45,12 +44,6 @@ pub struct Played {
     pub second: Option<Heard>,
 }
 
-fn tone(place: u8, alteration: u32) -> u64
-    ensures { λ r. ⌜ r ≡ tone-of place alteration ⌝ }
-{
-    12 * (place / 7) as u64 + HALF_TONES[(place % 7) as usize] + alteration as u64
-}
-
 impl Held {
     /// What is heard of the note once it is let go.
     fn let_go(self) -> Option<Heard>
@@ -66,7 +59,7 @@ impl Held {
             } => Some(Heard {
                 start: since,
                 length: long,
-                tone: tone(place, alteration),
+                tone: tone(place as u32, alteration),
             }),
         }
     }
@@ -291,3 +284,8 @@ pub fn read(bytes: &[u8], signature: u32, heard: &mut [Heard]) -> Result<usize, 
         Ok(reached.notes)
     }
 }
+
+/// A note for each five bytes is always room enough for what `read` hears.
+pub fn notes_are_few()
+    ensures { λ _. ⌜ Few-notes ⌝ }
+{}

@@ -1,7 +1,7 @@
 -- Each turn passes one symbol.
-use mathlib.Core.Path.{_≡_, sym, _∙_}
+use mathlib.Core.Path.{sym, _∙_}
 use native.Mathlib.Omega.{arith}
-use lib.ListN.{length, drop, length-drop}
+use lib.ListN.{drop, length-drop}
 use Rattle.std.proofs.shelf.Tests.{eq-eqb, ne-eqb}
 use Rattle.score.proofs.Picks.{pick-true, pick-false}
 use Rattle.engraving.proofs.Parts.{bars-on, bars-end, bars-none}

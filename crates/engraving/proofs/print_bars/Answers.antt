@@ -1,17 +1,17 @@
 -- Each turn of a loop writes one symbol or passes to the next event; what is owed changes as `Turns` says.
-use mathlib.Core.Path.{_≡_, refl, sym, ap, _∙_}
-use mathlib.Core.List.{List, _∷_, _++_}
-use Prim.Native.Nat.{ℕ, _+_, _-_, _*_}
+use mathlib.Core.Path.{_≡_, refl, ap, _∙_}
+use mathlib.Core.List.{_∷_, _++_}
+use Prim.Native.Nat.{_+_, _-_}
 use native.Mathlib.Omega.{arith}
 use lib.Dec.{ltb}
 use lib.ListN.{length, getD, take, drop}
 use Rattle.score.specs.Print.{Symbol, bar}
 use Rattle.laws.specs.Owed.{one}
 use Rattle.laws.proofs.Laid.{lesser-both}
-use Rattle.laws.proofs.Rows.{Words, fine-from}
+use Rattle.laws.proofs.Rows.{fine-from}
 use Rattle.wire.specs.Bytes.{symbol-bytes}
-use Rattle.engraving.proofs.Page.{Page, starts, owing, enter, leave, room, write, all}
-use Rattle.engraving.proofs.Turns.{in-event, in-voice, times-three, starts-voice, value-turn, part-turn, line-turn, next-bar, begins-bar, no-bar, Rowed, rowed, event-words, pass-turn, reach-turn, silent-turn, plain-turn, signed-turn, end-turn, no-event}
+use Rattle.engraving.proofs.Page.{starts, owing, enter, leave, room, write, all}
+use Rattle.engraving.proofs.Turns.{in-event, times-three, starts-voice, value-turn, part-turn, line-turn, next-bar, begins-bar, no-bar, Rowed, rowed, event-words, pass-turn, reach-turn, silent-turn, plain-turn, signed-turn, end-turn, no-event}
 use Rattle.engraving.proofs.print_bars.Choices.{events-from}
 use Rattle.engraving.proofs.print_bars.Needs as need
 use Rattle.engraving.proofs.print_bars.Needs.{then-gone-eq0·then-place-ne-SILENT·then-holds-place, else-gone-eq0, else-gone-eq0·by·then-gone-eq0·then-place-ne-SILENT·else-holds-place, else-gone-eq0·by·then-gone-eq0·else-place-ne-SILENT, else-gone-eq0·by·else-gone-eq0}

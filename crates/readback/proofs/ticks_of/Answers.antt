@@ -1,5 +1,5 @@
 -- Ticks are counted event by event, and the first event that cannot be written ends it.
-use mathlib.Core.Path.{_≡_, sym, _∙_}
+use mathlib.Core.Path.{sym, _∙_}
 use native.Mathlib.Omega.{arith}
 use Rattle.laws.proofs.Rows.{fine-words}
 use Rattle.readback.proofs.Events.{fine-more, fine-not, total-more, none-left, not-writable, too-long, is-measured}

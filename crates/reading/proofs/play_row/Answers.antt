@@ -1,26 +1,23 @@
 -- Each turn finds a symbol, plays it and writes down what has ended by it.
 use borrow.Author.Needs.{needs}
-use mathlib.Core.Path.{_≡_, refl, sym, ap, _∙_}
-use mathlib.Core.List.{List, [], _∷_, _++_, map}
-use Prim.Native.Nat.{ℕ, _+_, _-_, _*_}
+use mathlib.Core.Path.{_≡_, sym, ap, _∙_}
+use mathlib.Core.List.{List, [], _++_, map}
+use Prim.Native.Nat.{ℕ, _+_}
 use native.Mathlib.Omega.{arith}
-use lib.ListN.{length, take, drop, length-drop}
-use Rattle.std.specs.declared.option.Option.{Option}
-use Rattle.std.specs.declared.option.Option.the-variants.{Some, None}
+use lib.ListN.{length, drop, length-drop}
 use Rattle.std.proofs.shelf.Lists.{append-nil, take-rest, drop-drop}
 use Rattle.score.specs.Meaning.{symbol-meant}
 use Rattle.score.specs.Music as music
 use Rattle.score.specs.Print.{Symbol}
 use Rattle.wire.specs.Reading.{symbol-of}
-use Rattle.reading.specs.Keeps.{held-meant}
 use Rattle.reading.specs.Player.{State}
 use Rattle.reading.specs.Symbols.{playable, symbols-of}
 use Rattle.reading.specs.Told.{state-of, heard-meant, listed, notes}
 use Rattle.reading.proofs.Steps.{to-hear, begins, ends-all}
 use Rattle.reading.proofs.Rows.{Found, found, none}
-use Rattle.reading.proofs.Hearing.{one-note, plays-on, Noted, starts, room, write, all}
+use Rattle.reading.proofs.Hearing.{one-note, plays-on, starts, room, write, all}
 use Rattle.reading.proofs.play_row.Needs as need
-use Rattle.reading.proofs.play_row.Needs.{In-Some, In-rest, After-play-played, After-let-go}
+use Rattle.reading.proofs.play_row.Needs.{In-Some, After-play-played, After-let-go}
 
 pub symbols-holds : need.symbols-holds
 symbols-holds c = (

@@ -1,6 +1,5 @@
 -- One note is written behind the other.
-use mathlib.Core.Path.{_≡_, sym, _∙_}
-use Prim.Native.Nat.{_+_}
+use mathlib.Core.Path.{sym}
 use native.Mathlib.Omega.{arith}
 use lib.ListN.{length-append}
 use Rattle.wire.proofs.Written.{put-next}
