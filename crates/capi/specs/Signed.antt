@@ -12,8 +12,8 @@ use Rattle.score.specs.Music.{pick}
 use Rattle.score.specs.Calls.{Answer, done, refused, symbols, sounds, number}
 use Rattle.wire.specs.Bytes.{answer-bytes}
 use Rattle.wire.specs.ReadingCalls.{read-call}
-use Rattle.wire.specs.declared.answers.Said.{Said}
-use Rattle.wire.specs.declared.answers.Said.the-variants.{Done, Refused, Symbols, Sounds, Number}
+use Rattle.score.specs.declared.Answer.{Answer as Said}
+use Rattle.score.specs.declared.Answer.the-variants.{Done, Refused, Symbols, Sounds, Number}
 use Rattle.memory.specs.Store.{words-asked, bytes-asked, voices-in, limit-in}
 use Rattle.session.specs.Session.{opens, words-taken, bytes-taken, memory-in, said-to, Answered}
 use Rattle.session.specs.declared.Opening.{Opening}

@@ -10,11 +10,11 @@ ghost use Rattle.score.specs.Meaning.{refusal-number, refusal-place};
 ghost use Rattle.wire.specs.Reading.{said-of};
 ghost use Rattle.session.specs.Session.{open-answer, Ready, Opened, Unchanged};
 ghost use Rattle.capi.specs.Signed.{turned-away, if-done, signed, signed-by, opening-of, words-number, bytes-number, header-of, header-fits, Replied};
+use score::Answer;
 use score::Refusal;
 use session::Opening;
 use session::call;
 use session::open;
-use wire::Said;
 use wire::read_answer;
 
 /// A refusal's number and place as one number below 0.
@@ -128,7 +128,7 @@ fn number_of(bytes: &[u8], long: usize) -> i64
     ensures { λ r. ⌜ r ≡ signed-by long (said-of (now (bytes .entry))) ⌝ }
 {
     match read_answer(bytes) {
-        Some(Said::Refused { number, place }) => below_zero(number, place),
+        Some(Answer::Refused { number, place }) => below_zero(number, place),
         _ => long as i64,
     }
 }
