@@ -10,7 +10,7 @@ use lib.ListN.{length, getD, set, take, drop, replicate}
 use Rattle.std.specs.shelf.Lists.{sum}
 use Rattle.std.proofs.shelf.Lists.{getD-past, getD-set-same, getD-set-other, length-take, length-drop, take-map, drop-all}
 use Rattle.std.proofs.shelf.Tests.{cases-eq, cases-lt}
-use Rattle.score.specs.Music.{Event, lasts, Heard, heard, total, all-fine}
+use Rattle.score.specs.Music.{Event, lasts, heard, total, all-fine}
 use Rattle.score.specs.Calls.{Score, ticks-end, voice, begins, together}
 use Rattle.laws.specs.Rows.{voice-of}
 use Rattle.laws.proofs.Events.{total-three}
@@ -21,9 +21,6 @@ use Rattle.sounds.proofs.Slots.{Free, Rising, begun-none, marks-other, marks-s
 use Rattle.sounds.proofs.Turns.{begun-later, begun-here}
 use Rattle.sounds.proofs.Mixed.{mixed-same, together-mixed}
 use Rattle.sounds.proofs.Parts.{voice-drop, voice-take, lasts-voice, total-sum, voice-dealt, begins-passed, starts-until, rising-starts, rising-later, length-dealt}
-
-abbrev Notes : Type 0
-Notes = List (ℕ × Heard)
 
 not-here : {A : Type 0} (u t m : ℕ) (ms : List ℕ) → bit m u ≡ 1 → begun u t (m ∷ ms) ≡ [] → A
 not-here u t m ms e h = let f : t ∷ begun u (t + grain) ms ≡ [] = sym (begun-here u t m ms e) ∙ h in absurd (let z : _≡_ {A = ℕ} 0 1 = cc in omega arith)

@@ -20,11 +20,8 @@ use Rattle.laws.proofs.Events.{fine-lasts}
 use Rattle.laws.proofs.Rows.{lasts-words}
 use Rattle.memory.proofs.Scores.{fine-fields, fine-place}
 use Rattle.memory.specs.Store.{dealt}
-use Rattle.sounds.specs.Spans.{until, starts, grain, passed, note-ticks, silences, sound-at}
+use Rattle.sounds.specs.Spans.{Row, until, starts, grain, passed, note-ticks, silences, sound-at}
 use Rattle.sounds.proofs.Slots.{Rising}
-
-abbrev Notes : Type 0
-Notes = List (ℕ × Heard)
 
 -- ---- parts of rows
 
@@ -139,7 +136,7 @@ begins-until u a e t (note p q d ∷ es) h =
     elim (cases-lt t e) [
       | inl l ↦
           pick-true (leb a t && ltb t e) _ _ (and-from _ _ (le-leb _ _ h) (lt-ltb _ _ l))
-          ∙ ap (λ (r : Notes). (u, record { start = t; long = d; high = tone p q }) ∷ r) rest ∙ sym (pick-true (ltb t e) _ _ (lt-ltb _ _ l))
+          ∙ ap (λ (r : Row). (u, record { start = t; long = d; high = tone p q }) ∷ r) rest ∙ sym (pick-true (ltb t e) _ _ (lt-ltb _ _ l))
       | inr l ↦ begins-late u a e t (note p q d ∷ es) l ∙ sym (pick-false (ltb t e) _ _ (le-ltb _ _ l))
     ]
 
@@ -149,7 +146,7 @@ unfolding begins heard lasts
 begins-before u a e t (silence d) es h = refl
 begins-before u a e t (note p q d) es h = pick-false (leb a t && ltb t e) _ _ (and-left (leb a t) (ltb t e) (lt-leb _ _ h))
 
-abbrev rest-from : ℕ → ℕ → ℕ → List Event → ℕ → Notes
+abbrev rest-from : ℕ → ℕ → ℕ → List Event → ℕ → Row
 rest-from u e t es k = until u e (heard (drop k es) (t + total (take k es)))
 
 pub begins-passed : (u a e t : ℕ) (es : List Event) → begins u a e (heard es t) ≡ rest-from u e t es (passed a t (map lasts es))
@@ -209,7 +206,7 @@ rising-starts u e t (note p q d ∷ es) f m =
     let r = and-parts _ _ f in
     let l = fine-lasts (note p q d) (r .0) in
     let ih = rising-starts u e (t + d) es (r .1) (omega (arith, l .1)) in
-    pick-both (λ (ys : Notes). Rising t e (starts ys)) (ltb t e) _ _
+    pick-both (λ (ys : Row). Rising t e (starts ys)) (ltb t e) _ _
     (λ h. (omega arith, ltb-true _ _ h, m, rising-later (t + grain) (t + d) e _ (omega (arith, l .0, l .1)) ih))
     (λ _. tt)
 
@@ -239,7 +236,7 @@ begins-slots u a b t (note p q d ∷ es) f m =
     let r = and-parts _ _ f in
     let l = fine-lasts (note p q d) (r .0) in
     let ih = begins-slots u a b (t + d) es (r .1) (omega (arith, l .1)) in
-    let more : Bool → Notes → Notes = λ c ys. pick c ((u, record { start = t; long = d; high = tone p q }) ∷ ys) ys in
+    let more : Bool → Row → Row = λ c ys. pick c ((u, record { start = t; long = d; high = tone p q }) ∷ ys) ys in
     ap (λ (c : Bool). more c (begins u a b (heard es (t + d)))) (same-span a b t m) ∙ ap (more (leb (grain * up a) t && ltb t (grain * (up a + (up b - up a))))) ih
 
 -- ---- the note that comes next
@@ -288,16 +285,16 @@ coming (p ∷ ps) (x ∷ xs) [] (suc n) t = inr record { all-passed = omega arit
 coming (p ∷ ps) (x ∷ xs) (d ∷ ds) (suc n) t = coming-step p x d ps xs ds (take n (voice-of ps xs ds)) (silences ps) t (eqb p places) (coming ps xs ds n (t + d))
 
 -- the same of what begins before tick e, of voice u
-pub record Next (es : List Event) (ps xs ds : List ℕ) (k t u e : ℕ) (y : ℕ × Heard) (ys : List (ℕ × Heard)) : Type 0 where
+pub record Next (es : List Event) (ps xs ds : List ℕ) (k t u e : ℕ) (y : ℕ × Heard) (ys : Row) : Type 0 where
   pub in-voice : k < length es
   pub event : getD es k (silence 0) ≡ note (getD ps k 0) (getD xs k 0) (getD ds k 0)
   pub sound : y ≡ (u, sound-at ps xs ds k (y .1 .start))
   pub rest : ys ≡ until u e (heard (drop (suc k) es) (t + total (take (suc k) es)))
 
-no-note : {A : Type 0} (y : ℕ × Heard) (ys : Notes) → [] ≡ y ∷ ys → A
+no-note : {A : Type 0} (y : ℕ × Heard) (ys : Row) → [] ≡ y ∷ ys → A
 no-note y ys e = absurd (let z : _≡_ {A = ℕ} 0 1 = cc in omega arith)
 
-until-first : (u e : ℕ) (h : Heard) (hs : List Heard) (y : ℕ × Heard) (ys : Notes) → until u e (h ∷ hs) ≡ y ∷ ys → (y ≡ (u, h)) × (ys ≡ until u e hs)
+until-first : (u e : ℕ) (h : Heard) (hs : List Heard) (y : ℕ × Heard) (ys : Row) → until u e (h ∷ hs) ≡ y ∷ ys → (y ≡ (u, h)) × (ys ≡ until u e hs)
 unfolding until
 until-first u e h hs y ys q =
     elim (cases-lt (h .start) e) [
@@ -306,7 +303,7 @@ until-first u e h hs y ys q =
     ]
 
 pub next-heard :
-    (ps xs ds : List ℕ) (n t u e : ℕ) (y : ℕ × Heard) (ys : Notes) → until u e (heard (take n (voice-of ps xs ds)) t) ≡ y ∷ ys
+    (ps xs ds : List ℕ) (n t u e : ℕ) (y : ℕ × Heard) (ys : Row) → until u e (heard (take n (voice-of ps xs ds)) t) ≡ y ∷ ys
     → Next (take n (voice-of ps xs ds)) ps xs ds (silences ps) t u e y ys
 unfolding until
 next-heard ps xs ds n t u e y ys h =

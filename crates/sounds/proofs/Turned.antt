@@ -14,13 +14,10 @@ use Rattle.score.specs.Music.{places, alterations, length-end, Event, note, sil
 use Rattle.score.specs.Calls.{voice}
 use Rattle.laws.specs.Rows.{voice-of}
 use Rattle.memory.proofs.Scores.{fine-at, fines-voice, fine-parts}
-use Rattle.sounds.specs.Spans.{from-event, until, silences, grain, begun, sound-at, score-in, Laid, left, Ready, all-left}
+use Rattle.sounds.specs.Spans.{Row, from-event, until, silences, grain, begun, sound-at, score-in, Laid, left, Ready, all-left}
 use Rattle.sounds.proofs.Bits.{Lowest}
 use Rattle.sounds.proofs.Turns.{First, turn-first, turn-mixed, turn-begin}
 use Rattle.sounds.proofs.Parts.{voice-drop, length-voice, voice-dealt, length-dealt, drop-take-sub, total-take, note-fields, Next, next-heard}
-
-abbrev Notes : Type 0
-Notes = List (ℕ × Heard)
 
 from-later : (es : List Event) (u e i k : ℕ) → until u e (heard (drop (suc k) (drop i es)) (total (take i es) + total (take (suc k) (drop i es)))) ≡ until u e (from-event es (i + suc k))
 from-later es u e i k =
@@ -28,7 +25,7 @@ from-later es u e i k =
     ∙ ap (λ (n : ℕ). until u e (heard (drop (i + suc k) es) n)) (total-take i (suc k) es)
 
 -- a voice of which something is left is there
-there : (ns ps xs ds : List ℕ) (e : ℕ) (cursors : List ℕ) (u : ℕ) (y : ℕ × Heard) (ys : Notes) → left ns ps xs ds e cursors u ≡ y ∷ ys → u < length ns
+there : (ns ps xs ds : List ℕ) (e : ℕ) (cursors : List ℕ) (u : ℕ) (y : ℕ × Heard) (ys : Row) → left ns ps xs ds e cursors u ≡ y ∷ ys → u < length ns
 unfolding until heard
 there ns ps xs ds e cursors u y ys h =
     elim (cases-lt u (length ns)) [
@@ -56,10 +53,10 @@ module _ (ns ps xs ds : List ℕ) (e : ℕ) (cursors : List ℕ) (t m v : ℕ) (
     abbrev At : ℕ
     At = getD cursors v 0 + silences (drop (getD cursors v 0) ps)
 
-    abbrev F : ℕ → Notes
+    abbrev F : ℕ → Row
     F = left ns ps xs ds e cursors
 
-    abbrev G : ℕ → Notes
+    abbrev G : ℕ → Row
     G = left ns ps xs ds e (set cursors v (At + 1))
 
     first : First (F v) t (begun v (t + grain) ms)

@@ -9,12 +9,9 @@ use lib.Dec.{eqb}
 use Rattle.std.proofs.shelf.Tests.{cases-eq, eq-eqb, ne-eqb}
 use Rattle.score.specs.Music.{pick, Heard}
 use Rattle.score.proofs.Picks.{pick-true, pick-false, pick-both}
-use Rattle.sounds.specs.Spans.{starts, mixed, grain, bit, begun, Begin}
+use Rattle.sounds.specs.Spans.{Row, starts, mixed, grain, bit, begun, Begin}
 use Rattle.sounds.proofs.Bits.{bit-zero, flip-same, flip-other, Lowest}
 use Rattle.sounds.proofs.Mixed.{From, mixed-next, mixed-none}
-
-abbrev Notes : Type 0
-Notes = List (ℕ × Heard)
 
 unfoldable Least : ℕ → List ℕ → Type 0
 Least t [] = Unit {0}
@@ -30,7 +27,7 @@ unfolding begun Least
 begun-least u t [] = tt
 begun-least u t (m ∷ ms) = pick-both (Least t) (eqb (bit m u) 1) _ _ (λ _. omega arith) (λ _. least-later t (t + grain) _ (omega arith) (begun-least u (t + grain) ms))
 
-from-starts : (t : ℕ) (xs : Notes) (ts : List ℕ) → starts xs ≡ ts → Least t ts → From t xs
+from-starts : (t : ℕ) (xs : Row) (ts : List ℕ) → starts xs ≡ ts → Least t ts → From t xs
 unfolding Least From
 from-starts t [] ts e h = tt
 from-starts t (x ∷ xs) ts e h = subst (Least t) (sym e) h
@@ -49,23 +46,23 @@ unfolding begun
 begun-alike u t m w ms e = ap (λ (n : ℕ). pick (eqb n 1) (t ∷ begun u (t + grain) ms) (begun u (t + grain) ms)) e
 
 -- the first note of a row, and what comes after it
-pub record First (xs : Notes) (t : ℕ) (ts : List ℕ) : Type 0 where
+pub record First (xs : Row) (t : ℕ) (ts : List ℕ) : Type 0 where
   pub note : ℕ × Heard
-  pub rest : Notes
+  pub rest : Row
   pub is : xs ≡ note ∷ rest
   pub starts-at : note .1 .start ≡ t
   pub after : starts rest ≡ ts
 
-first-of : (xs : Notes) (t : ℕ) (ts : List ℕ) → starts xs ≡ t ∷ ts → First xs t ts
+first-of : (xs : Row) (t : ℕ) (ts : List ℕ) → starts xs ≡ t ∷ ts → First xs t ts
 first-of [] t ts e = absurd (let z : _≡_ {A = ℕ} 0 1 = cc in omega arith)
 first-of (x ∷ xs) t ts e = record { note = x; rest = xs; is = refl; starts-at = cc; after = cc }
 
-module _ (f : ℕ → Notes) (t m v : ℕ) (ms : List ℕ) (b : Begin f t (m ∷ ms)) (low : Lowest m v) where
+module _ (f : ℕ → Row) (t m v : ℕ) (ms : List ℕ) (b : Begin f t (m ∷ ms)) (low : Lowest m v) where
   pub turn-first : First (f v) t (begun v (t + grain) ms)
   turn-first = first-of (f v) t _ (b .told v ∙ begun-here v t m ms (low .is-set))
 
   -- after it is taken from its row
-  module _ (g : ℕ → Notes) (gone : g v ≡ turn-first .rest) (same : (u : ℕ) → (u ≡ v → ⊥) → f u ≡ g u) where
+  module _ (g : ℕ → Row) (gone : g v ≡ turn-first .rest) (same : (u : ℕ) → (u ≡ v → ⊥) → f u ≡ g u) where
     pub turn-mixed : (n : ℕ) → v < n → mixed f n 0 ≡ turn-first .note ∷ mixed g n 0
     turn-mixed n l =
         mixed-next f g v (turn-first .note) (turn-first .rest) (turn-first .is) gone same
@@ -85,14 +82,14 @@ module _ (f : ℕ → Notes) (t m v : ℕ) (ms : List ℕ) (b : Begin f t (m ∷
     }
 
 -- a slot without bits
-pub begin-later : (f : ℕ → Notes) (t m : ℕ) (ms : List ℕ) → m ≡ 0 → Begin f t (m ∷ ms) → Begin f (t + grain) ms
+pub begin-later : (f : ℕ → Row) (t m : ℕ) (ms : List ℕ) → m ≡ 0 → Begin f t (m ∷ ms) → Begin f (t + grain) ms
 begin-later f t m ms z b = record { told = λ u. b .told u ∙ begun-later u t m ms (ap (λ (n : ℕ). bit n u) z ∙ bit-zero u) }
 
 -- and no more slots
-no-notes : (xs : Notes) → starts xs ≡ [] → xs ≡ []
+no-notes : (xs : Row) → starts xs ≡ [] → xs ≡ []
 no-notes [] e = refl
 no-notes (x ∷ xs) e = absurd (let z : _≡_ {A = ℕ} 0 1 = cc in omega arith)
 
-pub begin-none : (f : ℕ → Notes) (t n : ℕ) → Begin f t [] → mixed f n 0 ≡ []
+pub begin-none : (f : ℕ → Row) (t n : ℕ) → Begin f t [] → mixed f n 0 ≡ []
 unfolding begun
 begin-none f t n b = mixed-none f n 0 (λ u. no-notes (f u) (b .told u))

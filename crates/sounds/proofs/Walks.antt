@@ -7,12 +7,12 @@ use lib.Bits.{bitOr}
 use lib.Dec.{eqb, ltb}
 use lib.ListN.{length, getD, set, take, drop}
 use Rattle.std.specs.shelf.Lists.{sum}
-use Rattle.std.proofs.shelf.Lists.{drop-more, drop-all}
+use Rattle.std.proofs.shelf.Lists.{drop-more, drop-all, take-rest}
 use Rattle.std.proofs.shelf.Sums.{sumBy-cons, sumBy-more, sumBy-drop-more, sumBy-take-le}
 use Rattle.std.proofs.shelf.Tests.{lt-ltb, le-ltb, eq-eqb, ne-eqb}
 use Rattle.score.specs.Music.{pick, places}
 use Rattle.score.proofs.Picks.{pick-true, pick-false}
-use Rattle.sounds.specs.Spans.{grain, passed, note-ticks, silences, marks}
+use Rattle.sounds.specs.Spans.{grain, passed, note-ticks, ticks-from, silences, marks}
 
 -- ---- events that begin before a tick
 
@@ -67,6 +67,12 @@ module _ (e t i : ℕ) (ps ds : List ℕ) (lp : i < length ps) (ld : i < length 
 pub marks-none : (v first : ℕ) (ts ms : List ℕ) → ts ≡ [] → marks v first ts ms ≡ ms
 unfolding marks
 marks-none v first ts ms e = ap (λ (xs : List ℕ). marks v first xs ms) e
+
+-- the slots as the code marks them from the r-th event on
+pub marks-rest :
+    (v first e tick r : ℕ) (ps ds ms slots : List ℕ) → slots ≡ marks v first (note-ticks e tick (take (length ps - r) (drop r ps)) (take (length ds - r) (drop r ds))) ms → tick ≡ sum (take r ds)
+    → slots ≡ marks v first (ticks-from e ps ds r) ms
+marks-rest v first e tick r ps ds ms slots h t = let p = take-rest ps r in let d = take-rest ds r in cc
 
 -- ---- silences that come first
 

@@ -11,7 +11,7 @@ use Rattle.std.proofs.shelf.Lists.{append-assoc, append-nil, length-append, len
 use Rattle.score.specs.Music.{Heard}
 use Rattle.wire.specs.Bytes.{sound-bytes, each, sounds-bytes}
 use Rattle.wire.proofs.Written.{put-rest}
-use Rattle.sounds.specs.Spans.{grain, silences, sound-at, Laid, left, Begin, Ready, all-left}
+use Rattle.sounds.specs.Spans.{Row, grain, silences, sound-at, Laid, left, Begin, Ready, all-left}
 use Rattle.sounds.proofs.Bits.{trailing-lowest}
 use Rattle.sounds.proofs.Turns.{begin-later, begin-none}
 use Rattle.sounds.proofs.Turned.{Turned, turned}
@@ -57,7 +57,7 @@ module _ {ns ps xs ds : List ℕ} {e : ℕ} where
             ap (λ (bs : List ℕ). take (8 * (count + 1)) bs ++ sounds-bytes (all-left ns ps xs ds e next)) parts
             ∙ ap (λ (bs : List ℕ). bs ++ sounds-bytes (all-left ns ps xs ds e next)) (take-at part (drop (8 * count + 8) out) (8 * (count + 1)) long)
             ∙ append-assoc (take (8 * count) out) (sound-bytes y) (sounds-bytes (all-left ns ps xs ds e next))
-            ∙ ap (λ (ys : List (ℕ × Heard)). take (8 * count) out ++ sounds-bytes ys) (sym (n .next)) ∙ w .front;
+            ∙ ap (λ (ys : Row). take (8 * count) out ++ sounds-bytes ys) (sym (n .next)) ∙ w .front;
         back =
             ap (drop (8 * (count + 1))) parts ∙ drop-at part (drop (8 * count + 8) out) (8 * (count + 1)) long ∙ sym (drop-drop 8 (8 * count) out) ∙ ap (drop 8) (w .back)
             ∙ drop-drop 8 (8 * count) came ∙ ap (λ (k : ℕ). drop k came) (sym eight);
@@ -97,7 +97,7 @@ module _ {ns ps xs ds : List ℕ} {e : ℕ} where
   writing-all {start} {came} {cursors} {out} {count} {t} {ms} w z =
       let none : all-left ns ps xs ds e cursors ≡ [] = begin-none _ t (length ns) (subst (Begin (left ns ps xs ds e cursors) t) z (w .ready .begin)) in
       let f : take (8 * count) out ≡ sounds-bytes (all-left ns ps xs ds e start) =
-      sym (append-nil (take (8 * count) out)) ∙ ap (λ (ys : List (ℕ × Heard)). take (8 * count) out ++ sounds-bytes ys) (sym none) ∙ w .front in
+      sym (append-nil (take (8 * count) out)) ∙ ap (λ (ys : Row). take (8 * count) out ++ sounds-bytes ys) (sym none) ∙ w .front in
       let g = ap length none in (
         sym (take-append-drop (8 * count) out) ∙ ap (λ (bs : List ℕ). bs ++ drop (8 * count) out) f ∙ ap (λ (bs : List ℕ). sounds-bytes (all-left ns ps xs ds e start) ++ bs) (w .back),
         omega (arith, w .many, g),

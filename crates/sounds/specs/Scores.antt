@@ -16,7 +16,7 @@ Laid r = over.Laid (r .counts .now) (r .places .now) (r .alterations .now) (r .l
 abbrev pub Ready : Rows → ℕ → List ℕ → ℕ → List ℕ → Type 0
 Ready r = over.Ready (r .counts .now) (r .places .now) (r .alterations .now) (r .lengths .now)
 
-abbrev pub all-left : Rows → ℕ → List ℕ → List (ℕ × Heard)
+abbrev pub all-left : Rows → ℕ → List ℕ → over.Row
 all-left r = over.all-left (r .counts .now) (r .places .now) (r .alterations .now) (r .lengths .now)
 
 abbrev pub sound-at : Rows → ℕ → ℕ → Heard

@@ -14,20 +14,25 @@ use Rattle.memory.specs.Store.{dealt, all-fines}
 
 -- ---- rows of notes
 
+-- notes as they are heard, each with its voice
+abbrev pub Row : Type 0
+Row = List (ℕ × Heard)
+
 -- the notes of a voice from its i-th event on
 abbrev pub from-event : List Event → ℕ → List Heard
 from-event es i = heard (drop i es) (total (take i es))
 
 -- the first of them, those that begin before tick e, as voice u's
-unfoldable pub until : ℕ → ℕ → List Heard → List (ℕ × Heard)
+unfoldable pub until : ℕ → ℕ → List Heard → Row
 until u e [] = []
 until u e (h ∷ hs) = pick (ltb (h .start) e) ((u, h) ∷ until u e hs) []
 
-abbrev pub starts : List (ℕ × Heard) → List ℕ
+-- when they begin
+abbrev pub starts : Row → List ℕ
 starts xs = map (λ x. x .1 .start) xs
 
 -- n rows as one, of which the first is row w: by time, and a row's before those of later rows where times are the same
-unfoldable pub mixed : (ℕ → List (ℕ × Heard)) → ℕ → ℕ → List (ℕ × Heard)
+unfoldable pub mixed : (ℕ → Row) → ℕ → ℕ → Row
 mixed f zero w = []
 mixed f (suc n) w = merged (length (f w) + length (mixed f n (suc w))) (f w) (mixed f n (suc w))
 
@@ -63,6 +68,7 @@ silences (p ∷ ps) = pick (eqb p places) (suc (silences ps)) 0
 abbrev pub grain : ℕ
 grain = 3
 
+-- of a number, the bit of weight 2 ^ k
 abbrev pub bit : ℕ → ℕ → ℕ
 bit n k = n / 2 ^ k % 2
 
@@ -81,6 +87,7 @@ marks u first (t ∷ ts) ms = let k : ℕ = t / grain - first in marks u first t
 abbrev pub score-in : List ℕ → List ℕ → List ℕ → List ℕ → Score
 score-in ns ps xs ds = dealt ns (voice-of ps xs ds)
 
+-- rows of one length, with not too many voices and events, of which each voice can be written
 pub record Laid (ns ps xs ds : List ℕ) : Type 0 where
   pub few-voices : length ns ≤ 64
   pub few-events : length ps ≤ 65536
@@ -91,11 +98,11 @@ pub record Laid (ns ps xs ds : List ℕ) : Type 0 where
   pub fines : all-fines (score-in ns ps xs ds) ≡ true
 
 -- what is left of voice u up to before tick e, where the cursors say which of all events comes next in each voice
-abbrev pub left : List ℕ → List ℕ → List ℕ → List ℕ → ℕ → List ℕ → ℕ → List (ℕ × Heard)
+abbrev pub left : List ℕ → List ℕ → List ℕ → List ℕ → ℕ → List ℕ → ℕ → Row
 left ns ps xs ds e cursors u = until u e (from-event (voice (score-in ns ps xs ds) u) (getD cursors u 0 - sum (take u ns)))
 
 -- rows of notes that begin as the slots from tick t on say
-pub record Begin (f : ℕ → List (ℕ × Heard)) (t : ℕ) (ms : List ℕ) : Type 0 where
+pub record Begin (f : ℕ → Row) (t : ℕ) (ms : List ℕ) : Type 0 where
   pub told : (u : ℕ) → starts (f u) ≡ begun u t ms
 
 -- cursors, none of which is before its voice, and slots that tell what is left
@@ -104,5 +111,5 @@ pub record Ready (ns ps xs ds : List ℕ) (e : ℕ) (cursors : List ℕ) (t : �
   pub reached : (u : ℕ) → u < length ns → sum (take u ns) ≤ getD cursors u 0
 
 -- and all of it
-abbrev pub all-left : List ℕ → List ℕ → List ℕ → List ℕ → ℕ → List ℕ → List (ℕ × Heard)
+abbrev pub all-left : List ℕ → List ℕ → List ℕ → List ℕ → ℕ → List ℕ → Row
 all-left ns ps xs ds e cursors = mixed (left ns ps xs ds e cursors) (length ns) 0

@@ -1,14 +1,14 @@
 -- The slots of the span tell what is heard in it.
 use mathlib.Core.Path.{sym, ap, _∙_}
-use mathlib.Core.List.{List, _++_}
+use mathlib.Core.List.{_++_}
 use Prim.Native.Nat.{ℕ, _*_, _≤_}
 use native.Mathlib.Omega.{arith}
 use lib.ListN.{length, drop, replicate}
-use Rattle.score.specs.Music.{Heard}
 use Rattle.score.specs.Calls.{all-events}
 use Rattle.wire.specs.Bytes.{sounds-bytes}
 use Rattle.memory.specs.Store.{score-of}
 use Rattle.memory.proofs.Fields.{few-together}
+use Rattle.sounds.specs.Spans.{Row}
 use Rattle.sounds.proofs.Whole.{slots-empty, slots-many, span-heard}
 use Rattle.sounds.proofs.heard_in.Needs as need
 
@@ -30,7 +30,7 @@ returns c =
     (omega (arith, c .div-ceil .ensures, c .saturating-sub-used .ensures)) (slots-many (c .saturating-sub-used .result) 512 few) in
     let many = c .write-span .ensures .many ∙ ap length heard in
     record {
-      wrote = c .write-span .ensures .wrote ∙ ap (λ (xs : List (ℕ × Heard)). sounds-bytes xs ++ drop (8 * c .write-span .result) (c .args .out .now)) heard;
+      wrote = c .write-span .ensures .wrote ∙ ap (λ (xs : Row). sounds-bytes xs ++ drop (8 * c .write-span .result) (c .args .out .now)) heard;
       many = many;
       few = omega (arith, many, few-together (score-of (c .args .words .now)) 0 (c .args .from) (c .args .to), c .pre .0 .kept .fitting);
     }

@@ -1,12 +1,11 @@
 -- The events from the first slot on are the rest of both rows.
-use mathlib.Core.Path.{_≡_, ap, _∙_}
-use mathlib.Core.List.{List}
-use Prim.Native.Nat.{ℕ, _+_, _-_, _*_}
+use mathlib.Core.Path.{_≡_}
+use Prim.Native.Nat.{_-_}
 use native.Mathlib.Omega.{arith}
 use lib.ListN.{length, take, drop}
 use Rattle.std.proofs.shelf.Lists.{take-rest, length-drop}
 use Rattle.std.proofs.shelf.Sums.{sumBy-take-drop}
-use Rattle.sounds.specs.Spans.{grain, note-ticks, marks}
+use Rattle.sounds.proofs.Walks.{marks-rest}
 use Rattle.sounds.proofs.mark_voice.Needs as need
 
 pub mark-requires : need.mark-requires
@@ -19,18 +18,10 @@ mark-requires c κs =
 
 pub returns : need.returns
 returns c =
-    let P : List ℕ = c .args .places .now in
-    let L : List ℕ = c .args .lengths .now in
-    let r : ℕ = c .reach-passed .result .0 in
-    let e : ℕ = grain * (c .args .first + length (c .args .slots .now)) in
     let t = c .reach-passed .ensures .tick in
     record {
       index = c .reach-passed .ensures .index;
-      marked =
-          c .mark .ensures
-          ∙ ap (λ (ps : List ℕ). marks (c .args .voice) (c .args .first) (note-ticks e (c .reach-passed .result .1) ps (take (length L - r) (drop r L))) (c .args .slots .now)) (take-rest P r)
-          ∙ ap (λ (ds : List ℕ). marks (c .args .voice) (c .args .first) (note-ticks e (c .reach-passed .result .1) (drop r P) ds) (c .args .slots .now)) (take-rest L r)
-          ∙ ap (λ (n : ℕ). marks (c .args .voice) (c .args .first) (note-ticks e n (drop r P) (drop r L)) (c .args .slots .now)) t;
+      marked = marks-rest (c .args .voice) (c .args .first) _ _ (c .reach-passed .result .0) (c .args .places .now) (c .args .lengths .now) _ _ (c .mark .ensures) t;
       inside = c .reach-passed .ensures .inside;
       reached = λ l. omega (arith, c .reach-passed .ensures .reached l, t);
     }

@@ -1,12 +1,11 @@
 -- What the slots tell is what is heard together, and there is room for it.
 use mathlib.Core.Path.{_≡_, sym, ap, subst, _∙_}
-use mathlib.Core.List.{List, _++_}
+use mathlib.Core.List.{_++_}
 use Prim.Native.Nat.{ℕ, _+_, _*_}
 use native.Mathlib.Omega.{arith}
 use lib.ListN.{length, drop}
-use Rattle.score.specs.Music.{Heard}
 use Rattle.wire.specs.Bytes.{sounds-bytes}
-use Rattle.sounds.specs.Spans.{grain}
+use Rattle.sounds.specs.Spans.{Row, grain}
 use Rattle.sounds.specs.Scores.{score-in, Ready, all-left}
 use Rattle.memory.proofs.Fields.{few-together}
 use Rattle.sounds.proofs.write_span.Needs as need
@@ -27,6 +26,6 @@ pub returns : need.returns
 returns c =
     let whole = ap (λ (n : ℕ). all-left (c .args .rows) (grain * (c .args .first + n)) (c .mark-voices .last .cursors)) (c .mark-voices .kept .slots) ∙ c .mark-voices .ensures .whole in
     record {
-      wrote = c .write-slots .ensures .wrote ∙ ap (λ (xs : List (ℕ × Heard)). sounds-bytes xs ++ drop (8 * c .write-slots .result) (c .args .out .now)) whole;
+      wrote = c .write-slots .ensures .wrote ∙ ap (λ (xs : Row). sounds-bytes xs ++ drop (8 * c .write-slots .result) (c .args .out .now)) whole;
       many = c .write-slots .ensures .many ∙ ap length whole;
     }
