@@ -142,3 +142,81 @@ pub fn enough_memory()
 pub fn whole_way()
     ensures { λ _. ⌜ Whole-way ⌝ }
 {}
+
+#[cfg(test)]
+mod tests {
+    use super::*;
+    use score::RefusalDebug;
+    use score::RefusalPartialEq;
+    use std::test::*;
+
+    // f sharp over a bar line is put and shown, what is not there is refused, and nothing has changed by that.
+    fn shows(words: &mut [u32], bytes: &mut [u8]) -> Result<(), Fail> {
+        let opening = Opening {
+            key: 7,
+            bar: 96,
+            voices: 1,
+            events: 2,
+        };
+        let Ok(()) = open(words, bytes, opening) else {
+            return Err(Fail::new("a score is opened"));
+        };
+        let put = [0, 0, 0, 0, 0, 0, 0, 0, 0, 0, 31, 3, 144, 0];
+        check_eq(call(words, bytes, &put), 1)?;
+        let show = [3, 0, 0, 0, 0, 0, 0, 0, 0, 2, 0, 0, 0];
+        let shown = [
+            2,
+            3,
+            0,
+            0,
+            0,
+            2,
+            31,
+            4,
+            96,
+            0,
+            0,
+            0,
+            0,
+            0,
+            0,
+            1,
+            31,
+            0,
+            48,
+            0,
+        ];
+        check_eq(call(words, bytes, &show), 20)?;
+        check(bytes.starts_with(&shown))?;
+        let cut = [1, 0, 0, 0, 0, 1, 0, 0, 0];
+        check_eq(call(words, bytes, &cut), 6)?;
+        check(bytes.starts_with(&[1, 5, 1, 0, 0, 0]))?;
+        check_eq(call(words, bytes, &[6]), 6)?;
+        check(bytes.starts_with(&[1, 1, 0, 0, 0, 0]))?;
+        check_eq(call(words, bytes, &show), 20)?;
+        check(bytes.starts_with(&shown))
+    }
+
+    #[test]
+    fn a_note_is_put_and_shown(rt: LibcRuntime) -> Result<(), Fail> {
+        let mut words = vec![in rt.alloc(); 0; 12]?;
+        let mut bytes = vec![in rt.alloc(); 0; 262160]?;
+        shows(&mut words, &mut bytes)
+    }
+
+    #[test]
+    fn too_little_memory_is_refused() -> Result<(), Fail> {
+        let opening = Opening {
+            key: 7,
+            bar: 96,
+            voices: 1,
+            events: 2,
+        };
+        check_eq(
+            open(&mut [0; 11], &mut [], opening),
+            Err(Refusal::TooLittleMemory),
+        )?;
+        let opening = Opening { bar: 97, ..opening };
+        check_eq(open(&mut [], &mut [], opening), Err(Refusal::BadOpening))
+    }
+}
