@@ -15,7 +15,7 @@ use Rattle.wire.specs.ReadingCalls.{read-call}
 use Rattle.wire.proofs.Numbers.{of-four-four}
 use Rattle.wire.proofs.PlaceRight.{place-right}
 use Rattle.memory.specs.Store.{limits-of, layout-of, score-of}
-use Rattle.memory.specs.Words.{Holds, answer-by}
+use Rattle.memory.specs.Words.{answer-by}
 use Rattle.memory.proofs.Fields.{answers-short}
 use Rattle.session.specs.Session.{words-taken, memory-in, Ready, said-to, Answered}
 use Rattle.capi.specs.Signed.{turned-away, signed, signed-by, Replied}

@@ -32,18 +32,24 @@ fn refuse(refusal: Refusal) -> i64
     below_zero(refusal.number(), refusal.place())
 }
 
+/// An opening with these numbers.
+fn opening_of(key: u32, bar: u32, voices: u32, events: u32) -> Opening
+    ensures { λ r. ⌜ r ≡ opening-of key bar voices events ⌝ }
+{
+    Opening {
+        key,
+        bar,
+        voices,
+        events,
+    }
+}
+
 /// How many words an opening asks for, or a refusal.
 #[unsafe(no_mangle)]
 pub extern "C" fn engraver_words(key: u32, bar: u32, voices: u32, events: u32) -> i64
     ensures { λ r. ⌜ r ≡ words-number (opening-of key bar voices events) ⌝ }
 {
-    let opening = Opening {
-        key,
-        bar,
-        voices,
-        events,
-    };
-    match opening.sizes() {
+    match opening_of(key, bar, voices, events).sizes() {
         Some(sizes) => sizes.words as i64,
         None => refuse(Refusal::BadOpening),
     }
@@ -54,13 +60,7 @@ pub extern "C" fn engraver_words(key: u32, bar: u32, voices: u32, events: u32) -
 pub extern "C" fn engraver_bytes(key: u32, bar: u32, voices: u32, events: u32) -> i64
     ensures { λ r. ⌜ r ≡ bytes-number (opening-of key bar voices events) ⌝ }
 {
-    let opening = Opening {
-        key,
-        bar,
-        voices,
-        events,
-    };
-    match opening.sizes() {
+    match opening_of(key, bar, voices, events).sizes() {
         Some(sizes) => sizes.bytes as i64,
         None => refuse(Refusal::BadOpening),
     }
@@ -79,13 +79,7 @@ pub extern "C" fn engraver_open(
     ensures says { λ r. ⌜ r ≡ signed 0 (open-answer (opening-of key bar voices events) (length (now (words .entry))) (length (now (bytes .entry)))) ⌝ }
     ensures left { λ _. ⌜ if-done (open-answer (opening-of key bar voices events) (length (now (words .entry))) (length (now (bytes .entry)))) (Opened (opening-of key bar voices events) (now (words .entry)) (now (bytes .entry)) (now (words .exit)) (now (bytes .exit))) (Unchanged (now (words .entry)) (now (bytes .entry)) (now (words .exit)) (now (bytes .exit))) ⌝ }
 {
-    let opening = Opening {
-        key,
-        bar,
-        voices,
-        events,
-    };
-    match open(words, bytes, opening) {
+    match open(words, bytes, opening_of(key, bar, voices, events)) {
         Ok(()) => 0,
         Err(refusal) => refuse(refusal),
     }
@@ -98,12 +92,7 @@ fn header(words: &[u32]) -> Option<Opening>
     if words.len() < 4 {
         return None;
     }
-    Some(Opening {
-        key: words[0],
-        bar: words[1],
-        voices: words[2],
-        events: words[3],
-    })
+    Some(opening_of(words[0], words[1], words[2], words[3]))
 }
 
 /// Whether memory has a header that a score may have, and room for such a score.
