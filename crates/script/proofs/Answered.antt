@@ -19,7 +19,7 @@ use Rattle.memory.proofs.Run.{kept-after, kept-empty}
 use Rattle.session.specs.declared.Opening.{Opening}
 use Rattle.session.specs.Session.{limits-for, layout-for, Ready, Opened}
 use Rattle.text.specs.Lines.{call-line}
-use Rattle.text.specs.Spelling.{spelled-answer}
+use Rattle.spelling.specs.Spelling.{spelled-answer}
 use Rattle.script.specs.Lines.{line-end}
 use Rattle.script.specs.Script.{answer-line, answer-lines, after-line, line-answers, serves, opened-answers}
 use Rattle.script.specs.Desk.{score-words, line-answer-in, words-after, line-answers-in}

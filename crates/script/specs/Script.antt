@@ -13,9 +13,9 @@ use Rattle.score.specs.Calls.{Call, Answer, refused, Limits, Layout, Score, emp
 use Rattle.wire.specs.Bytes.{each}
 use Rattle.session.specs.declared.Opening.{Opening}
 use Rattle.session.specs.Session.{opens, limits-for, layout-for}
-use Rattle.text.specs.declared.lines.Unfit.{Unfit}
+use Rattle.text.specs.declared.Unfit.{Unfit}
 use Rattle.text.specs.Lines.{call-line, setting-line}
-use Rattle.text.specs.Spelling.{spelled-answer}
+use Rattle.spelling.specs.Spelling.{spelled-answer}
 use Rattle.script.specs.Lines.{line-end, lines}
 
 -- first one, and with what it gives the other; or the first byte of a line that does not fit

@@ -12,23 +12,23 @@ ghost use Rattle.score.specs.Music.{pick};
 ghost use Rattle.score.specs.Meaning.{call-meant};
 ghost use Rattle.session.specs.Session.{Ready};
 ghost use Rattle.text.specs.Lines.{call-line};
-ghost use Rattle.text.specs.Spelling.{spelled-answer};
+ghost use Rattle.spelling.specs.Spelling.{spelled-answer};
 ghost use Rattle.script.specs.Lines.{lines};
 ghost use Rattle.script.specs.Script.{serves, opened-answers, answer-lines, script-answers};
 ghost use Rattle.script.specs.Desk.{score-words, line-answer-in, words-after, line-answers-in, asked-by};
 use crate::lines::next_line;
 use crate::lines::read_opening;
+use answers::spell_answer;
 use score::Call;
 use session::Opening;
 use session::Sizes;
 use session::call;
 use session::open;
+use spelling::spell_refusal;
 use std::alloc::Global;
 use std::error::AnyError;
-use text::answers::spell_answer;
-use text::lines::Unfit;
-use text::lines::read_call;
-use text::spelling::spell_refusal;
+use text::Unfit;
+use text::read_call;
 use wire::write_call;
 
 /// How many voices and events a script is served at most.

@@ -7,8 +7,8 @@ ghost use Rattle.std.specs.declared.option.Option.the-variants.{None, Some};
 ghost use Rattle.script.specs.Lines.{all-lines, says, lines};
 ghost use Rattle.script.specs.Script.{lines-left, setting-in, opening-in};
 use session::Opening;
-use text::lines::Unfit;
-use text::lines::read_setting;
+use text::Unfit;
+use text::read_setting;
 
 /// The first line of a text, without its end, and what is behind it.
 fn cut_line(text: &[u8]) -> (&[u8], &[u8])

@@ -11,8 +11,8 @@ use Rattle.score.specs.Calls.{Call, put, cut, change, show, heard-in, how-long}
 use Rattle.score.specs.Meaning.{event-meant, call-meant}
 use Rattle.score.specs.declared.Event.{Event as EventType}
 use Rattle.score.specs.declared.Call.{Call as CallType}
-use Rattle.text.specs.Words.{Read, got, stuck, then, strip, one-of, number, spaced-number}
-use Rattle.text.specs.declared.lines.Unfit.{Unfit}
+use Rattle.words.specs.Words.{Read, got, stuck, then, strip, one-of, number, spaced-number}
+use Rattle.text.specs.declared.Unfit.{Unfit}
 
 -- the largest numbers that fields of one, two and four bytes carry
 abbrev pub most-in-one : ℕ

@@ -2,8 +2,8 @@
 use mathlib.Core.Path.{ap}
 use Rattle.std.specs.Of.String.{string-bytes}
 use Rattle.score.specs.Meaning.{call-meant}
-use Rattle.text.specs.Spelling.{spelled-bytes}
-use Rattle.text.proofs.Rows.{retold}
+use Rattle.spelling.specs.Spelling.{spelled-bytes}
+use Rattle.spelling.proofs.Rows.{retold}
 use Rattle.script.proofs.Answering.{room, told, left}
 use Rattle.script.proofs.desk.answer_call.Needs as need
 

@@ -1,6 +1,6 @@
 -- The lines are answered from the opening on.
 use Rattle.std.specs.Of.String.{string-bytes}
-use Rattle.text.proofs.Rows.{retold}
+use Rattle.spelling.proofs.Rows.{retold}
 use Rattle.script.proofs.Answered.{opened-so}
 use Rattle.script.proofs.desk.answer_in.Needs as need
 

@@ -1,7 +1,0 @@
--- The words are those of the definition.
-use Rattle.text.specs.Lines.{beginning}
-use Rattle.text.proofs.lines.read_beginning.Needs as need
-
-pub returns : need.returns
-unfolding beginning
-returns c = c .read-one-of .ensures

@@ -1,7 +1,0 @@
--- The words are those of the definition.
-use Rattle.text.specs.Lines.{verb}
-use Rattle.text.proofs.lines.read_verb.Needs as need
-
-pub returns : need.returns
-unfolding verb
-returns c = c .read-one-of .ensures
