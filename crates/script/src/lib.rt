@@ -8,7 +8,7 @@ ghost use Rattle.script.specs.Script.{script-answers};
 ghost use Rattle.script.specs.Promised.{Calls-answered};
 
 mod desk;
-mod lines;
+pub mod lines;
 
 use crate::desk::answer_all;
 use std::alloc::Global;
