@@ -1,5 +1,6 @@
 //! `proofread [FILE]` prints a voice, reads what was printed, and prints what it heard. It reads a file, or standard input: a key, a bar's length, and
 //! then one event a line. It prints three lines: what is heard of the voice, what is printed, and what the reader heard.
+use answers::symbols_in;
 use engraving::voice::Layout;
 use engraving::voice::Rows;
 use input::read_input;
@@ -8,15 +9,14 @@ use readback::read_back;
 use reading::Heard;
 use score::Event;
 use script::lines::next_line;
+use spelling::spell_refusal;
+use spelling::spell_symbols;
 use std::alloc::AllocError;
 use std::alloc::Global;
 use std::error::AnyError;
-use text::answers::symbols_in;
-use text::lines::Unfit;
-use text::lines::read_event_line;
-use text::lines::read_setting;
-use text::spelling::spell_refusal;
-use text::spelling::spell_symbols;
+use text::Unfit;
+use text::read_event_line;
+use text::read_setting;
 
 /// How many events a voice may have here.
 const MOST_EVENTS: usize = 1024;
