@@ -23,6 +23,16 @@ mark s =
     pick (eqb s 0) [] (pick (eqb s 1) (codes "--") (pick (eqb s 2) (codes "-") (pick (eqb s 3) (codes "n")
     (pick (eqb s 4) (codes "#") (codes "x")))))
 
+-- alterations between a step and its octave
+abbrev pub alteration-name : ℕ → List ℕ
+alteration-name a =
+    pick (eqb a 0) (codes " double flat ") (pick (eqb a 1) (codes " flat ") (pick (eqb a 2) [] (pick (eqb a 3) (codes " sharp ") (codes " double sharp "))))
+
+-- an event, as `c4 48`, `f sharp 4 96` or `silence 60`
+abbrev pub spelled-event : Event → List ℕ
+spelled-event (note p a d) = letter (p % 7) ++ (alteration-name a ++ (decimal (p / 7) ++ (codes " " ++ decimal d)))
+spelled-event (silence d) = codes "silence " ++ decimal d
+
 -- a symbol, as `#f4:96`, `nf4:48~`, `r24` or `bar`
 abbrev pub spelled-symbol : Symbol → List ℕ
 spelled-symbol bar = codes "bar"
@@ -30,19 +40,17 @@ spelled-symbol (head p s v tied) =
     mark s ++ (letter (p % 7) ++ (decimal (p / 7) ++ (codes ":" ++ (decimal v ++ pick tied (codes "~") []))))
 spelled-symbol (rest v) = codes "r" ++ decimal v
 
--- a sound, as `voice start length tone`
+-- a note as it is heard, as `start length tone`, and a sound, as `voice start length tone`
+abbrev pub spelled-heard : Heard → List ℕ
+spelled-heard h = decimal (h .start) ++ (codes " " ++ (decimal (h .long) ++ (codes " " ++ decimal (h .high))))
+
 abbrev pub spelled-sound : ℕ × Heard → List ℕ
-spelled-sound x =
-    decimal (x .0) ++ (codes " " ++ (decimal (x .1 .start) ++ (codes " " ++ (decimal (x .1 .long) ++ (codes " " ++ decimal (x .1 .high))))))
+spelled-sound x = decimal (x .0) ++ (codes " " ++ spelled-heard (x .1))
 
 -- a row, the first behind `lead` and each that follows behind `between`
 unfoldable pub spelled-row : {A : Type 0} → (A → List ℕ) → List ℕ → List ℕ → List A → List ℕ
 spelled-row f lead between [] = []
 spelled-row f lead between (x ∷ xs) = lead ++ (f x ++ spelled-row f between between xs)
-
--- a note as a reader hears it, as `start length tone`
-abbrev pub spelled-heard : Heard → List ℕ
-spelled-heard h = decimal (h .start) ++ (codes " " ++ (decimal (h .long) ++ (codes " " ++ decimal (h .high))))
 
 abbrev pub spelled-symbols : List Symbol → List ℕ
 spelled-symbols xs = spelled-row spelled-symbol [] (codes " ") xs

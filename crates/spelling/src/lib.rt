@@ -6,8 +6,9 @@ ghost use denote.Ref.{now};
 ghost use Rattle.std.specs.Of.String.{string-bytes};
 ghost use Rattle.std.specs.Vec.{made};
 ghost use Rattle.score.specs.Calls.{refused};
-ghost use Rattle.score.specs.Meaning.{symbol-meant, sound-meant};
-ghost use Rattle.spelling.specs.Spelling.{letter, mark, spelled-symbol, spelled-sound, spelled-row, spelled-symbols, spelled-sounds, spelled-answer};
+ghost use Rattle.score.specs.Meaning.{event-meant, symbol-meant, sound-meant};
+ghost use Rattle.spelling.specs.Spelling.{letter, mark, alteration-name, spelled-event, spelled-symbol, spelled-sound, spelled-row, spelled-symbols, spelled-sounds, spelled-answer};
+use score::Event;
 use score::Sound;
 use score::Symbol;
 use std::fmt;
@@ -41,6 +42,19 @@ fn mark_of(sign: u8) -> &'static str
     }
 }
 
+/// How an alteration is named between a step and its octave.
+fn name_of(alteration: u8) -> &'static str
+    ensures { λ r. ⌜ now r ≡ alteration-name alteration ⌝ }
+{
+    match alteration {
+        0 => " double flat ",
+        1 => " flat ",
+        2 => "",
+        3 => " sharp ",
+        _ => " double sharp ",
+    }
+}
+
 /// What can be written as text.
 pub trait Spell {
     ghost spelled: { Self → List ℕ };
@@ -48,6 +62,27 @@ pub trait Spell {
     /// Writes its text behind what stands there.
     fn spell(&self, out: &mut String) -> fmt::Result
         ensures { λ r. ⌜ made r (λ _. string-bytes (now (out .exit)) ≡ string-bytes (now (out .entry)) ++ spelled (now (self .entry))) ⌝ };
+}
+
+/// As `c4 48`, `f sharp 4 96` or `silence 60`.
+pub impl Spell for Event as EventSpell {
+    ghost spelled = { λ x. spelled-event (event-meant x) };
+
+    fn spell(&self, out: &mut String) -> fmt::Result {
+        match *self {
+            Event::Note {
+                place,
+                alteration,
+                length,
+            } => {
+                let letter = letter_of(place % 7);
+                let name = name_of(alteration);
+                let octave = place / 7;
+                write!(out, "{letter}{name}{octave} {length}")
+            }
+            Event::Silence { length } => write!(out, "silence {length}"),
+        }
+    }
 }
 
 /// As `#f4:96`, `nf4:48~`, `r24` or `bar`.

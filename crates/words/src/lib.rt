@@ -3,7 +3,8 @@ ghost use mathlib.Core.Bool.{true, false};
 ghost use mathlib.Core.List.{_∷_, map};
 ghost use denote.Ref.{now as lent};
 ghost use mathlib.Core.Path.{_≡_};
-ghost use Prim.Native.Nat.{_+_, _≤_};
+ghost use lib.ListN.{length};
+ghost use Prim.Native.Nat.{_+_, _≤_, _<_};
 ghost use Rattle.std.specs.Vec.{made};
 ghost use Rattle.std.specs.declared.option.Option.the-variants.{None, Some};
 ghost use Rattle.words.specs.Words.{number, strip, spaced-number, one-of, outcome, begins-with-digit};
@@ -40,7 +41,8 @@ pub fn read_word<'a>(line: &'a [u8], word: &[u8]) -> Result<((), &'a [u8]), &'a 
 
 /// Reads the first of these words that fits, and says which.
 pub fn read_one_of<'a>(line: &'a [u8], words: &[&str]) -> Result<(usize, &'a [u8]), &'a [u8]>
-    ensures { λ r. ⌜ outcome r ≡ one-of (map lent (now (words .entry))) 0 (now (line .entry)) (now (line .entry)) ⌝ }
+    ensures read { λ r. ⌜ outcome r ≡ one-of (map lent (now (words .entry))) 0 (now (line .entry)) (now (line .entry)) ⌝ }
+    ensures bound { λ r. ⌜ made r (λ v. v .0 < length (now (words .entry))) ⌝ }
 {
     let mut furthest = line;
     for (i, word) in words.iter().enumerate() {

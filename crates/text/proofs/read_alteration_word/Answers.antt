@@ -4,4 +4,4 @@ use Rattle.text.proofs.read_alteration_word.Needs as need
 
 pub returns : need.returns
 unfolding alteration-word
-returns c = c .read-one-of .ensures
+returns c = c .read-one-of .ensures .read

@@ -4,4 +4,4 @@ use Rattle.text.proofs.read_beginning.Needs as need
 
 pub returns : need.returns
 unfolding beginning
-returns c = c .read-one-of .ensures
+returns c = c .read-one-of .ensures .read

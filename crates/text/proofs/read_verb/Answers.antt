@@ -4,4 +4,4 @@ use Rattle.text.proofs.read_verb.Needs as need
 
 pub returns : need.returns
 unfolding verb
-returns c = c .read-one-of .ensures
+returns c = c .read-one-of .ensures .read

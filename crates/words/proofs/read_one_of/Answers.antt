@@ -13,7 +13,7 @@ use Rattle.words.proofs.read_one_of.Needs.{then-rest-furthest, else-rest-furth
 pub returns-in-Ok : need.returns-in-Ok
 returns-in-Ok c =
     let h : c .loop-i .i < length (c .args .words .now) = omega arith in
-    word-fits _ _ _ _ _ _ _ _ h (c .as-bytes .ensures .value) (c .in-Ok .ensures tt) ∙ c .loop-i .inv
+    record { read = word-fits _ _ _ _ _ _ _ _ h (c .as-bytes .ensures .value) (c .in-Ok .ensures tt) ∙ c .loop-i .inv; bound = h }
 
 pub loop-i-again : need.loop-i-again
 loop-i-again c =
@@ -28,4 +28,4 @@ loop-i-again c =
 pub returns : need.returns
 returns c =
     let h : length (c .args .words .now) ≤ c .loop-i .i = omega arith in
-    words-over _ _ _ _ h ∙ c .loop-i .inv
+    record { read = words-over _ _ _ _ h ∙ c .loop-i .inv; bound = tt }
