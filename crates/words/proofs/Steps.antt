@@ -14,7 +14,7 @@ use Rattle.score.specs.Music.{pick}
 use Rattle.score.proofs.Picks.{pick-true, pick-false}
 use Rattle.words.specs.Words.{Read, got, stuck, is-digit, begins-with-digit, number-on, number, strip, shorter, or-else, one-of}
 
-digit-is : (d : ℕ) → d ≤ 9 → is-digit (48 + d) ≡ true
+pub digit-is : (d : ℕ) → d ≤ 9 → is-digit (48 + d) ≡ true
 digit-is d h = and-from _ _ (le-leb 48 (48 + d) (omega arith)) (le-leb (48 + d) 57 (omega arith))
 
 pub none-empty : (xs : List ℕ) → length xs ≡ 0 → begins-with-digit xs ≡ false

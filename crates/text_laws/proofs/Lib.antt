@@ -1,0 +1,5 @@
+mod Numbers
+mod Cases
+mod Events
+mod Sounds
+mod Symbols
