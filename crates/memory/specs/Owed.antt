@@ -24,7 +24,7 @@ Words-counted =
     (l : Limits) (y : Layout) (s : Score) → Kept l s →
     (length (stored l y s) ≡ words-asked (l .voices) (l .events)) × (words-asked (l .voices) (l .events) ≤ 8 * l .events + 64 * l .voices + 4096)
 
--- at every stage, of which the first is `thin` and false, and the last `whole` and true
+-- whichever calls can be done, and with signs or without; of the session `whole` and true
 abbrev pub Engraver-right : Type 0
 Engraver-right = (can : ℕ → Bool) (signed : Bool) → Right can signed (engraver-by can signed)
 

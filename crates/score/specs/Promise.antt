@@ -84,10 +84,7 @@ Refusal-keeps ks signs e =
     (l : Limits) (y : Layout) (cs : List Call) (c : Call) → l .calls-can ≡ ks → l .signs ≡ signs → Good-layout y → Good-limits l → all-readable (cs ++ (c ∷ [])) ≡ true →
     0 < turned l y (ran l y (empty-voices (l .voices)) cs) c → (e .next (left-by e (e .opened l y) cs) c) .words ≡ (left-by e (e .opened l y) cs) .words
 
--- the calls of the first stage, which puts and asks; and all of them
-abbrev pub thin : ℕ → Bool
-thin k = eqb k 0 || leb 3 k
-
+-- all calls
 abbrev pub whole : ℕ → Bool
 whole k = true
 
