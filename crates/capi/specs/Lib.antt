@@ -1,2 +1,1 @@
 pub mod Signed
-pub mod Put

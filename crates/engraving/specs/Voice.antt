@@ -1,6 +1,6 @@
 -- What rows of words mean, and when they can be printed. Assumes nothing: these are definitions.
-use Rattle.std.specs.Prelude.{◌≡◌, ℕ, ◌%◌, ◌<◌, ◌≤◌, true, List, length, slice_index}
-use Rattle.score.specs.Music.{alterations, Event, all_fine}
+use Rattle.std.specs.Prelude.{◌≡◌, ◌%◌, ◌<◌, true, List, length}
+use Rattle.score.specs.Music.{Event, all_fine}
 use Rattle.laws.specs.Rows.{voice_of}
 use Rattle.engraving.specs.declared.voice.Layout.{Layout}
 use Rattle.engraving.specs.declared.voice.Rows.{Rows}
@@ -15,8 +15,3 @@ pub record Ready (r : Rows) (y : Layout) : Type 0 where
   pub fine : all_fine (voice_in r) ≡ true
   pub some : 0 < y.bar
   pub thirds : y.bar % 3 ≡ 0
-
--- signs that are given to the events of rows: each is none, or that of one of the alterations
-pub record SignsFit (r : Rows) (ss : List ℕ) : Type 0 where
-  pub same_signs : length ss ≡ length r.lengths.now
-  pub small : (i : ℕ) → slice_index ss i ≤ alterations

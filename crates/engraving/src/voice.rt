@@ -8,14 +8,6 @@ pub struct Rows<'a> {
     pub lengths: &'a [u32],
 }
 
-/// What is kept of a voice in three rows of words: of each event the bar in which it begins, the tick of that bar, and the sign of its first head.
-#[derive(Clone, Copy)]
-pub struct Kept<'a> {
-    pub bars: &'a [u32],
-    pub ticks: &'a [u32],
-    pub signs: &'a [u32],
-}
-
 /// The key that a voice is printed in, and how many ticks a bar has.
 #[derive(Clone, Copy)]
 pub struct Layout {

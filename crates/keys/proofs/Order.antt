@@ -34,10 +34,6 @@ key_mod : (k p : ℕ) → key k p ≡ key k (p % 7)
 unfolding by_step
 key_mod k p = ap (by_step k) (sym (mod-mod p 7))
 
-pub key_octave : (k o s : ℕ) → s < 7 → key k s ≡ key k (7 * o + s)
-unfolding by_step
-key_octave k o s h = let e : s % 7 ≡ (7 * o + s) % 7 = omega arith in ap (by_step k) e
-
 in_range : (k p : ℕ) → k ≤ 14 → key k p ≡ by_order k (order_of p)
 unfolding key_test
 in_range k p h =

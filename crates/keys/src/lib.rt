@@ -1,14 +1,11 @@
 //! Keys: how a key alters the places, and what holds at each place where a bar begins.
-ghost use Rattle.std.specs.Prelude.{◌≡◌, ℕ, ◌<◌, ◌≤◌, length, slice_index};
+ghost use Rattle.std.specs.Prelude.{◌≡◌, ◌<◌, ◌≤◌, length};
 ghost use Rattle.score.specs.Music.{places, alterations, tone as tone_of};
 ghost use Rattle.score.specs.Print.{key};
-ghost use Rattle.keys.specs.Held.{key_row, sign_needed, then_holding};
+ghost use Rattle.keys.specs.Held.{key_row};
 
 /// How many places there are. A slice that says what holds at each of them has so many words.
 pub const PLACES: usize = 70;
-
-/// The place of a silence, which no note has.
-const SILENT: u32 = 70;
 
 /// The steps of an octave, of which each key alters a few in all octaves.
 const STEPS: u32 = 7;
@@ -44,45 +41,12 @@ pub fn altered_by_key(signature: u32, place: u32) -> u32
     }
 }
 
-/// How a key alters each step of an octave.
-fn alter_steps(signature: u32, steps: &mut [u32])
-    requires { length steps.old ≡ 7 }
-    ensures { (q : ℕ) → q < 7 → slice_index steps.new q ≡ key signature q }
-{
-    for step in 0..STEPS {
-        steps[step as usize] = altered_by_key(signature, step);
-    }
-}
-
-/// At the beginning of a bar the key holds at each place, in every octave alike.
+/// At the beginning of a bar the key holds at each place.
 pub fn begin_bar(signature: u32, holds: &mut [u32])
     requires { length holds.old ≡ places }
     ensures { holds.new ≡ key_row signature }
 {
-    let mut steps = [0; 7];
-    alter_steps(signature, &mut steps);
-    for octave in 0..PLACES / 7 {
-        for step in 0..7 {
-            holds[7 * octave + step] = steps[step];
-        }
-    }
-}
-
-/// The sign that an event needs where it begins, as `holds` says what holds at each place: none if it is a silence or if its alteration holds, else
-/// that alteration's. From then on its alteration holds at its place.
-pub fn sign_of(holds: &mut [u32], place: u32, alteration: u32) -> u32
-    requires { (length holds.old ≡ places) × ((place ≤ places) × ((place < places → alteration < alterations))) }
-    ensures sign { result ≡ sign_needed holds.old place alteration }
-    ensures holds { holds.new ≡ then_holding holds.old place alteration }
-{
-    if place == SILENT {
-        return 0;
-    }
-    let held = holds[place as usize];
-    holds[place as usize] = alteration;
-    if held == alteration {
-        0
-    } else {
-        alteration + 1
+    for place in 0..PLACES {
+        holds[place] = altered_by_key(signature, place as u32);
     }
 }

@@ -5,10 +5,8 @@ pub mod Few
 pub mod Laid
 pub mod Steps
 pub mod Bars
-pub mod Onsets
 pub mod Owing
 pub mod Walk
-pub mod Signed
 pub mod Room
 pub mod Reading
 pub mod FromBar
@@ -17,4 +15,3 @@ pub mod Signs
 pub mod Staying
 pub mod Together
 pub mod Turning
-pub mod Reaching

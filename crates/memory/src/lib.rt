@@ -1,6 +1,6 @@
 //! A score in lent words and bytes. What the words and bytes are stands in `specs/`; here are the theorems about them, each pinned by a function
 //! whose contract is the statement.
-ghost use Rattle.memory.specs.Owed.{ScoreBack, WordsFit, WordsCounted, OthersUnreached, AnswersFit, AnswersShort, EngraverRight, EngraverKeeps, EngraverEnough};
+ghost use Rattle.memory.specs.Owed.{ScoreBack, WordsFit, WordsCounted, AnswersFit, AnswersShort, EngraverRight, EngraverKeeps, EngraverEnough};
 
 /// A score is read back from the words that it is stored as.
 pub fn score_reads_back()
@@ -15,11 +15,6 @@ pub fn words_fit()
 /// A score is stored in as many words as are asked for.
 pub fn words_counted()
     ensures { WordsCounted }
-{}
-
-/// What is kept of a voice is not reached by a change of another.
-pub fn others_unreached()
-    ensures { OthersUnreached }
 {}
 
 /// Every answer that a score can give fits its fields.

@@ -119,14 +119,13 @@ fn print(heap: Global, voice: &Voice, layout: Layout, out: &mut String) -> anyho
         length: 0,
         tone: 0,
     };
-    let mut signs = vec![in heap; 0; voice.lengths.len()]?;
     let mut heard = vec![in heap; none; voice.lengths.len()]?;
     let rows = Rows {
         places: &voice.places,
         alterations: &voice.alterations,
         lengths: &voice.lengths,
     };
-    match read_back(rows, layout, &mut page, &mut signs, &mut heard) {
+    match read_back(rows, layout, &mut page, &mut heard) {
         Ok(back) => {
             spell_heard(&notes, out)?;
             spell_page(heap, page.get(0..back.bytes).unwrap_or(&[]), out)?;

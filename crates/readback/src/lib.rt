@@ -76,14 +76,8 @@ fn ticks_of(rows: Rows) -> Result<u32, Refusal>
 }
 
 /// How many bars the voice takes, if it can be read back: the layout is good, the events can be written, and there is room for all.
-fn bars_needed(
-    rows: Rows,
-    layout: Layout,
-    page: usize,
-    signs: usize,
-    notes: usize,
-) -> Result<u32, Refusal>
-    ensures { result ≡ bars_or_refusal rows.entry layout page signs notes }
+fn bars_needed(rows: Rows, layout: Layout, page: usize, notes: usize) -> Result<u32, Refusal>
+    ensures { result ≡ bars_or_refusal rows.entry layout page notes }
 {
     if !is_good(layout) {
         return Err(Refusal::BadOpening);
@@ -91,8 +85,7 @@ fn bars_needed(
     let ticks = ticks_of(rows)?;
     let bars = ticks / layout.bar + 1;
     let symbols = bars as usize * (layout.bar / SHORTEST + 1) as usize;
-    let events = rows.lengths.len();
-    if page < 5 * symbols || signs < events || notes < events {
+    if page < 5 * symbols || notes < rows.lengths.len() {
         return Err(Refusal::TooLittleMemory);
     }
     Ok(bars)
@@ -111,14 +104,13 @@ pub fn read_back(
     rows: Rows,
     layout: Layout,
     page: &mut [u8],
-    signs: &mut [u32],
     notes: &mut [Heard],
 ) -> Result<ReadBack, Refusal>
-    ensures said { result ≡ answered rows.entry layout (length page.old) (length signs.old) (length notes.old) }
-    ensures left { MatchResult result (λ b. Back rows.entry layout b page.old page.new signs.old signs.new notes.old notes.new) (λ _. Unchanged page.old page.new signs.old signs.new notes.old notes.new) }
+    ensures said { result ≡ answered rows.entry layout (length page.old) (length notes.old) }
+    ensures left { MatchResult result (λ b. Back rows.entry layout b page.old page.new notes.old notes.new) (λ _. Unchanged page.old page.new notes.old notes.new) }
 {
-    let bars = bars_needed(rows, layout, page.len(), signs.len(), notes.len())?;
-    let bytes = engrave(rows, layout, signs, 0, bars, page);
+    let bars = bars_needed(rows, layout, page.len(), notes.len())?;
+    let bytes = engrave(rows, layout, 0, bars, page);
     let Ok(heard) = read(&page[0..bytes], layout.key, notes) else {
         unreachable()
     };

@@ -7,7 +7,7 @@ ghost use Rattle.score.specs.Print.{nothing, let_go, goes_on, longer as made_lon
 ghost use Rattle.wire.specs.Reading.{symbol_of};
 ghost use Rattle.reading.specs.Few.{FewNotes};
 ghost use Rattle.reading.specs.Keeps.{held_meant, long_of};
-ghost use Rattle.reading.specs.Player.{said, then_held, after, after_head, let_go_head, ended_head, let_go_by, ended_by, lasts, can_play};
+ghost use Rattle.reading.specs.Player.{said, then_held, after, after_head, ends, ends_head, lasts, can_play};
 ghost use Rattle.reading.specs.Symbols.{playable, symbols_of, outcome};
 ghost use Rattle.reading.specs.Told.{state, heard_meant, notes, listed};
 
@@ -30,7 +30,7 @@ pub struct Heard {
     pub tone: u64,
 }
 
-/// A player one symbol later, and the notes that have ended by then: what was held and does not go on, and the symbol's own if it is not tied on.
+/// A player one symbol later, and the notes that have ended by then: what was held, and what the symbol itself began.
 #[derive(Clone, Copy)]
 pub struct Played {
     pub player: Player,
@@ -143,8 +143,7 @@ fn play_head(
     requires row { length holds.old ≡ places }
     requires playable { (place < places) × (player.time + value < 2 ^ 64) }
     ensures keeps { state result.player holds.new ≡ after_head place sign value tied (state player holds.old) }
-    ensures first { notes result.first ≡ let_go_head place sign (state player holds.old) }
-    ensures second { notes result.second ≡ ended_head place sign value tied (state player holds.old) }
+    ensures ended { notes result.first ++ notes result.second ≡ ends_head place sign value tied (state player holds.old) }
 {
     let time = player.time + value as u64;
     if player.held.goes_on(place, sign) {
@@ -165,8 +164,7 @@ pub fn play(player: Player, symbol: Symbol, signature: u32, holds: &mut [u32]) -
     requires row { length holds.old ≡ places }
     requires playable { (can_play (symbol_meant symbol) ≡ true) × (player.time + lasts (symbol_meant symbol) < 2 ^ 64) }
     ensures keeps { state result.player holds.new ≡ after signature (symbol_meant symbol) (state player holds.old) }
-    ensures first { notes result.first ≡ let_go_by (symbol_meant symbol) (state player holds.old) }
-    ensures second { notes result.second ≡ ended_by (symbol_meant symbol) (state player holds.old) }
+    ensures ended { notes result.first ++ notes result.second ≡ ends (symbol_meant symbol) (state player holds.old) }
 {
     match symbol {
         Symbol::BarLine => {

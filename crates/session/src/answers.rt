@@ -1,18 +1,18 @@
 //! Calls on words that hold a score, answered over the front of the bytes.
-ghost use Rattle.std.specs.Prelude.{◌≡◌, ◌+◌, ◌<◌, ◌≤◌, true, ◌++◌, length, take, drop, MatchOption, slice_index};
+ghost use Rattle.std.specs.Prelude.{◌≡◌, ◌+◌, ◌<◌, ◌≤◌, true, ◌++◌, length, drop, MatchOption, slice_index};
 ghost use Rattle.score.specs.Calls.{most_bars, widest_span, show as show_call, heard_in as heard_call};
 ghost use Rattle.score.specs.Meaning.{call_meant};
 ghost use Rattle.score.specs.Music.{all_fine};
 ghost use Rattle.wire.specs.Bytes.{answer_bytes};
-ghost use Rattle.memory.specs.Store.{limit_in, bars_from, beats_from, signs_from};
-ghost use Rattle.memory.specs.Words.{Holds, events_at, KeptAt, next_words};
+ghost use Rattle.memory.specs.Store.{limit_in};
+ghost use Rattle.memory.specs.Words.{Holds, events_at, next_words};
 ghost use Rattle.engraving.specs.Shown.{shown, page_bytes};
 ghost use Rattle.engraving.specs.Voice.{voice_in};
 ghost use Rattle.voices.specs.Said.{said_done, said_number};
 ghost use Rattle.session.specs.Session.{bytes_taken, Says};
 
 use engraving::engrave_page;
-use engraving::voice::{Kept, Layout, Rows};
+use engraving::voice::{Layout, Rows};
 use score::{Call, Refusal};
 use sounds::heard_in;
 use voices::{Span, change, cut, find_voice, how_long, put, regions_of};
@@ -69,29 +69,9 @@ fn rows_of<'a>(words: &'a [u32], span: Span) -> Rows<'a>
     }
 }
 
-/// What is kept of a voice that lies in a span.
-fn kept_of<'a>(words: &'a [u32], span: Span) -> Kept<'a>
-    requires { (Holds words.now) × (span.begin + span.count ≤ limit_in words.now) }
-    ensures bars { result.bars.now ≡ take span.count (drop (bars_from words.now + span.begin) words.now) }
-    ensures ticks { result.ticks.now ≡ take span.count (drop (beats_from words.now + span.begin) words.now) }
-    ensures signs { result.signs.now ≡ take span.count (drop (signs_from words.now + span.begin) words.now) }
-{
-    let count = span.count;
-    let regions = regions_of(words);
-    let bars = regions.bars + span.begin;
-    let ticks = regions.beats + span.begin;
-    let signs = regions.signs + span.begin;
-    Kept {
-        bars: &words[bars..bars + count],
-        ticks: &words[ticks..ticks + count],
-        signs: &words[signs..signs + count],
-    }
-}
-
 /// Prints bars of the voice that lies in a span.
 fn print(words: &[u32], span: Span, bar: u32, count: u32, out: &mut [u8]) -> usize
     requires holds { (Holds words.now) × (span.begin + span.count ≤ limit_in words.now) }
-    requires kept { KeptAt words.now span.begin span.count }
     requires fine { all_fine (events_at words.now span.begin span.count) ≡ true }
     requires room { (count ≤ most_bars) × (page_bytes ≤ length out.old) }
     ensures wrote { out.new ≡ shown (slice_index words.now 0) (slice_index words.now 1) (events_at words.now span.begin span.count) bar count ++ drop result out.old }
@@ -102,9 +82,7 @@ fn print(words: &[u32], span: Span, bar: u32, count: u32, out: &mut [u8]) -> usi
         key: words[0],
         bar: words[1],
     };
-    let rows = rows_of(words, span);
-    let kept = kept_of(words, span);
-    engrave_page(rows, kept, layout, bar, count, out)
+    engrave_page(rows_of(words, span), layout, bar, count, out)
 }
 
 /// Shows bars of a voice.

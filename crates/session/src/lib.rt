@@ -43,10 +43,7 @@ impl Opening {
             return None;
         }
         Some(Sizes {
-            words: 4
-                + (2 * self.voices as usize
-                    + 6 * self.events as usize
-                    + (self.events as usize / 32 + 1)),
+            words: 4 + (2 * self.voices as usize + 3 * self.events as usize),
             bytes: 8 * self.events as usize + 262144,
         })
     }
@@ -99,7 +96,7 @@ fn taken(words: &[u32]) -> Sizes
     let voices = words[2] as usize;
     let events = words[3] as usize;
     Sizes {
-        words: 4 + (2 * voices + 6 * events + (events / 32 + 1)),
+        words: 4 + (2 * voices + 3 * events),
         bytes: 8 * events + 262144,
     }
 }
@@ -177,7 +174,7 @@ mod tests {
 
     #[test]
     fn a_note_is_put_and_shown(rt: HostRuntime) -> Result<(), Fail> {
-        let mut words = vec![in rt.alloc(); 0; 19]?;
+        let mut words = vec![in rt.alloc(); 0; 12]?;
         let mut bytes = vec![in rt.alloc(); 0; 262160]?;
         shows(&rt, &mut words, &mut bytes)
     }
@@ -191,7 +188,7 @@ mod tests {
             events: 2,
         };
         assert_eq!(rt;
-            open(&mut [0; 18], &mut [], opening),
+            open(&mut [0; 11], &mut [], opening),
             Err(Refusal::TooLittleMemory)
         );
         let opening = Opening { bar: 97, ..opening };

@@ -4,7 +4,6 @@ pub mod Slots
 pub mod Turns
 pub mod Parts
 pub mod Walks
-pub mod Search
 pub mod Turned
 pub mod Writing
 pub mod Marked

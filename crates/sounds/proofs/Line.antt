@@ -36,7 +36,7 @@ module _ (ps xs ds : List ℕ) (i t : ℕ) (lx : length xs ≡ length ps) (ld : 
   ticks_yet : total (Yet i) ≡ sum (drop i ds)
   ticks_yet = ap total (sym whole) ∙ ticks (length ps) ∙ ap sum (take_all (length ps) (drop i ds) (simp length-drop (omega arith)))
 
-  module _ (at start : ℕ) (at_is : at ≡ i + K) (start_is : start ≡ t + sum (take K (drop i ds))) where
+  module _ (at start : ℕ) (at-is : at ≡ i + K) (start_is : start ≡ t + sum (take K (drop i ds))) where
     nothing_yet : length ps ≤ at → heard (Yet i) t ≡ []
     nothing_yet l =
         elim (coming (drop i ps) (drop i xs) (drop i ds) (length ps) t) [
@@ -59,7 +59,7 @@ module _ (ps xs ds : List ℕ) (i t : ℕ) (lx : length xs ≡ length ps) (ld : 
       rest = voice_drop (suc K) (drop i ps) (drop i xs) (drop i ds) ∙ rw (later ps, later xs, later ds)
 
       word : (ws : List ℕ) → get_or (drop i ws) K 0 ≡ get_or ws at 0
-      word ws = get_or-drop i ws K 0 ∙ ap (λ (j : ℕ). get_or ws j 0) (sym at_is)
+      word ws = get_or-drop i ws K 0 ∙ ap (λ (j : ℕ). get_or ws j 0) (sym at-is)
 
       -- the ticks up to behind the note
       behind : t + total (take (suc K) (Yet i)) ≡ start + get_or ds at 0
@@ -99,9 +99,9 @@ module _ (n : Notes) (p : Playable n) where
   pub yet_short : n.tick + sum (drop n.index n.lengths.now) < ticks_end
   yet_short = omega (arith, p.short, ticks_yet n.places.now n.alterations.now n.lengths.now n.index n.tick p.alterations_too p.lengths_too)
 
-  module _ (at start : ℕ) (at_is : at ≡ n.index + silences (drop n.index n.places.now)) (start_is : start ≡ n.tick + sum (take (silences (drop n.index n.places.now)) (drop n.index n.lengths.now))) where
+  module _ (at start : ℕ) (at-is : at ≡ n.index + silences (drop n.index n.places.now)) (start_is : start ≡ n.tick + sum (take (silences (drop n.index n.places.now)) (drop n.index n.lengths.now))) where
     pub over : length n.places.now ≤ at → heard_yet n ≡ []
-    over = nothing_yet n.places.now n.alterations.now n.lengths.now n.index n.tick p.alterations_too p.lengths_too at start at_is start_is
+    over = nothing_yet n.places.now n.alterations.now n.lengths.now n.index n.tick p.alterations_too p.lengths_too at start at-is start_is
 
     abbrev pub Then : Notes
     Then = record { voice = n.voice; places = n.places; alterations = n.alterations; lengths = n.lengths; index = at + 1; tick = start + get_or n.lengths.now at 0 }
@@ -115,19 +115,19 @@ module _ (n : Notes) (p : Playable n) where
 
     pub stepped : at < length n.places.now → Stepped
     stepped here =
-        let f = fields_yet n.places.now n.alterations.now n.lengths.now n.index n.tick p.alterations_too p.lengths_too at start at_is start_is here p.fines in
-        let t = total_yet n.places.now n.alterations.now n.lengths.now n.index n.tick p.alterations_too p.lengths_too at start at_is start_is here in
+        let f = fields_yet n.places.now n.alterations.now n.lengths.now n.index n.tick p.alterations_too p.lengths_too at start at-is start_is here p.fines in
+        let t = total_yet n.places.now n.alterations.now n.lengths.now n.index n.tick p.alterations_too p.lengths_too at start at-is start_is here in
         record {
           place = f.0;
           alteration = f.1;
           length_fits = f.2;
           heard_first = λ high q.
-              first_yet n.places.now n.alterations.now n.lengths.now n.index n.tick p.alterations_too p.lengths_too at start at_is start_is here
+              first_yet n.places.now n.alterations.now n.lengths.now n.index n.tick p.alterations_too p.lengths_too at start at-is start_is here
               ∙ ap (λ (h : ℕ). record { start = start; long = get_or n.lengths.now at 0; high = h } ∷ heard_yet Then) (sym q);
           playable = record {
             alterations_too = p.alterations_too;
             lengths_too = p.lengths_too;
-            fines = fines_yet n.places.now n.alterations.now n.lengths.now n.index n.tick p.alterations_too p.lengths_too at start at_is start_is here p.fines;
+            fines = fines_yet n.places.now n.alterations.now n.lengths.now n.index n.tick p.alterations_too p.lengths_too at start at-is start_is here p.fines;
             short = omega (arith, t, p.short);
           };
         }

@@ -1,18 +1,18 @@
 -- The slots and cursors of the voices that have been marked, one voice after the other. Assumes nothing.
 use Rattle.std.proofs.Common.{◌≡◌, ℕ, zero, suc, ◌+◌, ◌-◌, ◌*◌, ◌%◌, ◌<◌, ◌≤◌, true, List, [], ◌∷◌, ◌++◌, map, length, get_or, take, drop, set, replicate, sum, sym, refl, ap, ◌∙◌, subst, inl, inr, zero-add, arith}
-use Rattle.std.proofs.lemmas.List.{get_or_past, get_or-set_same, get_or-set_other, length-drop, take-map, drop_all}
+use Rattle.std.proofs.lemmas.List.{get_or_past, get_or-set_same, get_or-set_other, length-take, length-drop, take-map, drop_all}
 use Rattle.std.proofs.lemmas.Bool.{cases_eq, cases_lt}
 use Rattle.score.specs.Music.{Event, lasts, heard, total, all_fine}
 use Rattle.score.specs.Calls.{Score, ticks_end, voice, begins, together}
 use Rattle.laws.specs.Rows.{voice_of}
 use Rattle.laws.proofs.Events.{total_three}
 use Rattle.memory.proofs.Scores.{fines_voice, fine_parts, short_voice}
-use Rattle.sounds.specs.Spans.{from_event, until, starts, mixed, passed, note_ticks, ticks_from, Timed, grain, bit, begun, marks, score_in, Laid, AllTimed, left, Ready, all_left}
+use Rattle.sounds.specs.Spans.{from_event, until, starts, mixed, passed, note_ticks, ticks_from, grain, bit, begun, marks, score_in, Laid, left, Ready, all_left}
 use Rattle.sounds.proofs.Bits.{bit_zero, bit_two}
 use Rattle.sounds.proofs.Slots.{Free, Rising, begun_none, marks_other, marks-same}
 use Rattle.sounds.proofs.Turns.{begun_later, begun_here}
 use Rattle.sounds.proofs.Mixed.{mixed_same, together_mixed}
-use Rattle.sounds.proofs.Parts.{voice_drop, voice_take, lasts_voice, total_sum, voice_dealt, same_long, begins_passed, starts_until, rising_starts, rising_later, length_dealt}
+use Rattle.sounds.proofs.Parts.{voice_drop, voice_take, lasts_voice, total_sum, voice_dealt, begins_passed, starts_until, rising_starts, rising_later, length_dealt}
 
 not_here : {A : Type 0} (u t m : ℕ) (ms : List ℕ) → bit m u ≡ 1 → begun u t (m ∷ ms) ≡ [] → A
 not_here u t m ms e h = let f : t ∷ begun u (t + grain) ms ≡ [] = sym (begun_here u t m ms e) ∙ h in absurd (let z : ◌≡◌ {A = ℕ} 0 1 = cc in omega arith)
@@ -42,7 +42,7 @@ pub record Marked (ns ps xs ds : List ℕ) (first e : ℕ) (cursors ms : List �
   pub free : (u : ℕ) → k ≤ u → begun u (grain * first) ms ≡ []
 
 -- One voice more: the words of its events stand in the rows from `begin` up to before `end`; it passes over r of them, which have so many ticks.
-module _ (ns ps xs ds : List ℕ) (first E : ℕ) (laid : Laid ns ps xs ds) (cursors ms : List ℕ) (k begin end : ℕ) (there : k < length ns) (begins_at : begin ≡ sum (take k ns)) (ends_at : end ≡ begin + get_or ns k 0) where
+module _ (ns ps xs ds : List ℕ) (first E : ℕ) (laid : Laid ns ps xs ds) (cursors ms : List ℕ) (k begin end : ℕ) (there : k < length ns) (begins-at : begin ≡ sum (take k ns)) (ends_at : end ≡ begin + get_or ns k 0) where
   abbrev Es : List Event
   Es = voice (score_in ns ps xs ds) k
 
@@ -53,22 +53,20 @@ module _ (ns ps xs ds : List ℕ) (first E : ℕ) (laid : Laid ns ps xs ds) (cur
   in_rows =
       let n : get_or ns k 0 ≡ end - begin = omega arith in
       voice_dealt ns (voice_of ps xs ds) k
-      ∙ ap (λ (i : ℕ). take i (drop (sum (take k ns)) (voice_of ps xs ds))) n ∙ ap (λ (i : ℕ). take (end - begin) (drop i (voice_of ps xs ds))) (sym begins_at)
+      ∙ ap (λ (i : ℕ). take i (drop (sum (take k ns)) (voice_of ps xs ds))) n ∙ ap (λ (i : ℕ). take (end - begin) (drop i (voice_of ps xs ds))) (sym begins-at)
       ∙ ap (take (end - begin)) (voice_drop begin ps xs ds) ∙ voice_take (end - begin) (drop begin ps) (drop begin xs) (drop begin ds)
 
+  same_long : (ws : List ℕ) → length ws ≡ length ps → length (part ws) ≡ length (part ps)
+  same_long ws q = simp (length-take, length-drop, q)
+
   lengths_are : map lasts Es ≡ part ds
-  lengths_are = ap (map lasts) in_rows ∙ lasts_voice (part ps) (part xs) (part ds) (same_long begin end ps xs laid.alterations_too) (same_long begin end ps ds laid.lengths_too)
+  lengths_are = ap (map lasts) in_rows ∙ lasts_voice (part ps) (part xs) (part ds) (same_long xs laid.alterations_too) (same_long ds laid.lengths_too)
 
   pub part_short : sum (part ds) < ticks_end
   part_short = subst (λ (n : ℕ). n < ticks_end) (total_sum Es ∙ ap sum lengths_are) (short_voice (score_in ns ps xs ds) k laid.short)
 
-  -- what is kept of its events says where they begin
-  pub part_timed : (m : ℕ) (bs ts : List ℕ) → AllTimed ns ps xs ds m bs ts → Timed m (part bs) (part ts) (part ds)
-  part_timed m bs ts all =
-      let n : get_or ns k 0 ≡ end - begin = omega arith in
-      subst (λ (ls : List ℕ). Timed m (part bs) (part ts) ls) lengths_are
-      (subst (λ (i : ℕ). Timed m (take i (drop begin bs)) (take i (drop begin ts)) (map lasts Es)) n
-      (subst (λ (i : ℕ). Timed m (take (get_or ns k 0) (drop i bs)) (take (get_or ns k 0) (drop i ts)) (map lasts Es)) (sym begins_at) (all.each k there)))
+  pub part_long : length (part ps) ≡ length (part ds)
+  part_long = sym (same_long ds laid.lengths_too)
 
   module _ (r : ℕ) (passes : r ≡ passed (grain * first) 0 (part ds)) where
     abbrev tick : ℕ
@@ -90,7 +88,7 @@ module _ (ns ps xs ds : List ℕ) (first E : ℕ) (laid : Laid ns ps xs ds) (cur
     row_starts =
         ap (λ (es : List Event). starts (until k E (heard (drop r es) tick))) in_rows
         ∙ ap (λ (es : List Event). starts (until k E (heard es tick))) (voice_drop r (part ps) (part xs) (part ds))
-        ∙ starts_until k E tick (drop r (part ps)) (drop r (part xs)) (drop r (part ds)) (simp (length-drop, same_long begin end ps xs laid.alterations_too))
+        ∙ starts_until k E tick (drop r (part ps)) (drop r (part xs)) (drop r (part ds)) (simp (length-drop, same_long xs laid.alterations_too))
 
     -- the ticks rise, from the first slot on
     module _ (reaches : r < length (part ds) → grain * first ≤ tick) where
@@ -163,10 +161,10 @@ pub marked_step :
     → (r < length (take (end - begin) (drop begin ds)) → grain * first ≤ sum (take r (take (end - begin) (drop begin ds))))
     → slots ≡ marks k first (ticks_from (grain * (first + length ms)) (take (end - begin) (drop begin ps)) (take (end - begin) (drop begin ds)) r) ms
     → Marked ns ps xs ds first (grain * (first + n)) (set cursors k (begin + r)) slots (k + 1)
-marked_step {ns} {ps} {xs} {ds} {first} {n} {cursors} {ms} {k} {begin} end r slots laid there begins_at ends_at room long before passes reaches done =
+marked_step {ns} {ps} {xs} {ds} {first} {n} {cursors} {ms} {k} {begin} end r slots laid there begins-at ends_at room long before passes reaches done =
     subst (λ (i : ℕ). Marked ns ps xs ds first (grain * (first + i)) (set cursors k (begin + r)) slots (k + 1)) long
     (subst (λ (ws : List ℕ). Marked ns ps xs ds first (grain * (first + length ms)) (set cursors k (begin + r)) ws (k + 1)) (sym done)
-    (marked_more ns ps xs ds first (grain * (first + length ms)) laid cursors ms k begin end there begins_at ends_at r passes reaches refl room
+    (marked_more ns ps xs ds first (grain * (first + length ms)) laid cursors ms k begin end there begins-at ends_at r passes reaches refl room
     (subst (λ (i : ℕ). Marked ns ps xs ds first (grain * (first + i)) cursors ms k) (sym long) before)))
 
 -- ---- before the first voice, and after the last

@@ -1,6 +1,6 @@
 -- Voices in three rows of words: what is heard of them in a span, and which note comes next. Assumes nothing.
 use Rattle.std.proofs.Common.{◌≡◌, ℕ, zero, suc, ◌+◌, ◌-◌, ◌*◌, ◌/◌, ◌%◌, ◌<◌, ◌≤◌, min, Bool, true, false, ◌&&◌, eqb, ltb, leb, ◌⊎◌, List, [], ◌∷◌, map, length, get_or, take, drop, sum, sym, refl, ap, ◌∙◌, inl, inr, add_assoc, suc-add, zero-add, arith}
-use Rattle.std.proofs.lemmas.List.{length-take, length-drop, drop-drop, take_all}
+use Rattle.std.proofs.lemmas.List.{drop-drop, take_all}
 use Rattle.std.proofs.lemmas.List.Sums.{sum_by-cons}
 use Rattle.std.proofs.lemmas.Bool.{and_parts, and_from, and_left, and_right, cases_lt, le-leb, lt-leb, lt-ltb, le-ltb, ltb-true}
 use Rattle.score.specs.Music.{pick, places, alterations, length_end, Event, note, silence, lasts, tone, Heard, heard, total, fine, all_fine}
@@ -101,20 +101,6 @@ drop_take_sub zero c xs = ap (λ (n : ℕ). take n xs) (omega arith)
 drop_take_sub (suc i) zero xs = sym (take_none (0 - suc i) (drop (suc i) xs) (omega arith))
 drop_take_sub (suc i) (suc c) [] = sym (take_all (suc c - suc i) [] (omega arith))
 drop_take_sub (suc i) (suc c) (x ∷ xs) = drop_take_sub i c xs ∙ ap (λ (n : ℕ). take n (drop i xs)) (omega arith)
-
--- the words of rows from one on up to before another: as many of each row as of another that is as long, and those from the r-th of them on
-module _ (begin end : ℕ) where
-  pub same_long : (ps ws : List ℕ) → length ws ≡ length ps → length (take (end - begin) (drop begin ws)) ≡ length (take (end - begin) (drop begin ps))
-  same_long ps ws e = simp (length-take, length-drop, e)
-
-  module _ (r : ℕ) (ws : List ℕ) where
-    pub rest_part : take (end - (begin + r)) (drop (begin + r) ws) ≡ drop r (take (end - begin) (drop begin ws))
-    rest_part =
-        let n : end - (begin + r) ≡ end - begin - r = omega arith in
-        ap (λ (k : ℕ). take k (drop (begin + r) ws)) n ∙ ap (take (end - begin - r)) (sym (drop-drop r begin ws)) ∙ sym (drop_take_sub r (end - begin) (drop begin ws))
-
-    pub rest_some : 0 < length (take (end - (begin + r)) (drop (begin + r) ws)) → r < length (take (end - begin) (drop begin ws))
-    rest_some l = omega (arith, ap length rest_part, length-drop r (take (end - begin) (drop begin ws)))
 
 -- ---- what begins in a span
 

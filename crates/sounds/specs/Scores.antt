@@ -1,5 +1,5 @@
--- A score as the code has it, in lent rows of words: how many events each voice has, the events of all voices in three rows, and where they begin in two
--- more. Assumes nothing: these are definitions.
+-- A score as the code has it, in four lent rows of words: how many events each voice has, and the events of all voices in three rows. Assumes nothing:
+-- these are definitions.
 use Rattle.std.specs.Prelude.{ℕ, List}
 use Rattle.score.specs.Music.{Heard}
 use Rattle.score.specs.Calls.{Score}
@@ -11,9 +11,6 @@ score_in r = over.score_in r.counts.now r.places.now r.alterations.now r.lengths
 
 abbrev pub Laid : Rows → Type 0
 Laid r = over.Laid r.counts.now r.places.now r.alterations.now r.lengths.now
-
-abbrev pub AllTimed : Rows → Type 0
-AllTimed r = over.AllTimed r.counts.now r.places.now r.alterations.now r.lengths.now r.measure r.bars.now r.beats.now
 
 abbrev pub Ready : Rows → ℕ → List ℕ → ℕ → List ℕ → Type 0
 Ready r = over.Ready r.counts.now r.places.now r.alterations.now r.lengths.now

@@ -1,6 +1,6 @@
 -- What is heard of all voices in a span: rows of notes, and slots that say which voices begin a note there. Assumes nothing: these are definitions.
-use Rattle.std.specs.Prelude.{◌≡◌, ℕ, zero, suc, ◌+◌, ◌-◌, ◌*◌, ◌/◌, ◌%◌, ◌^◌, ◌<◌, ◌≤◌, true, List, [], ◌∷◌, map, length, take, drop, sum, ◌==◌, bit_or, nat_lt, slice_index, slice_set}
-use Rattle.score.specs.Music.{pick, places, Event, lasts, tone, Heard, heard, total}
+use Rattle.std.specs.Prelude.{◌≡◌, ℕ, zero, suc, ◌+◌, ◌-◌, ◌/◌, ◌%◌, ◌^◌, ◌<◌, ◌≤◌, true, List, [], ◌∷◌, map, length, take, drop, sum, ◌==◌, bit_or, nat_lt, slice_index, slice_set}
+use Rattle.score.specs.Music.{pick, places, Event, tone, Heard, heard, total}
 use Rattle.score.specs.Calls.{Score, voice, none_too_long, merged}
 use Rattle.laws.specs.Rows.{voice_of}
 use Rattle.memory.specs.Store.{dealt, all_fines}
@@ -50,29 +50,6 @@ note_ticks e t (p ∷ ps) (d ∷ ds) = pick (nat_lt t e) (pick (p == places) (no
 abbrev pub ticks_from : ℕ → List ℕ → List ℕ → ℕ → List ℕ
 ticks_from e ps ds r = note_ticks e (sum (take r ds)) (drop r ps) (drop r ds)
 
--- when an event begins, if the bar in which it does and the tick of that bar lie in two rows of words, and a bar has m ticks
-abbrev pub start_at : ℕ → List ℕ → List ℕ → ℕ → ℕ
-start_at m bs ts i = slice_index bs i * m + slice_index ts i
-
--- none begins before one that stands in front of it, and none too late
-pub record InOrder (m : ℕ) (bs ts : List ℕ) : Type 0 where
-  pub beats_too : length ts ≡ length bs
-  pub rise : (i j : ℕ) → i ≤ j → j < length bs → start_at m bs ts i ≤ start_at m bs ts j
-  pub small : (i : ℕ) → i < length bs → start_at m bs ts i < 2 ^ 32
-
--- so do events begin that follow one another and are so long
-pub record Timed (m : ℕ) (bs ts ds : List ℕ) : Type 0 where
-  pub bars_too : length bs ≡ length ds
-  pub beats_too : length ts ≡ length ds
-  pub begins : (i : ℕ) → i < length ds → start_at m bs ts i ≡ sum (take i ds)
-
--- r of them begin before tick a, and the next at tick t; which is a if there is no next
-pub record Reached (a m : ℕ) (bs ts : List ℕ) (r t : ℕ) : Type 0 where
-  pub inside : r ≤ length bs
-  pub before : (i : ℕ) → i < r → start_at m bs ts i < a
-  pub next : r < length bs → (t ≡ start_at m bs ts r) × (a ≤ t)
-  pub none : length bs ≤ r → t ≡ a
-
 -- how many silences come first
 unfoldable pub silences : List ℕ → ℕ
 silences [] = 0
@@ -112,16 +89,6 @@ pub record Laid (ns ps xs ds : List ℕ) : Type 0 where
   pub fitting : sum ns ≤ length ps
   pub short : none_too_long (score_in ns ps xs ds) ≡ true
   pub fines : all_fines (score_in ns ps xs ds) ≡ true
-
--- of a row, the words of voice u's events
-abbrev pub part : List ℕ → ℕ → List ℕ → List ℕ
-part ns u ws = take (slice_index ns u) (drop (sum (take u ns)) ws)
-
--- two rows more, which say where each voice's events begin
-pub record AllTimed (ns ps xs ds : List ℕ) (m : ℕ) (bs ts : List ℕ) : Type 0 where
-  pub bars_too : length bs ≡ length ps
-  pub beats_too : length ts ≡ length ps
-  pub each : (u : ℕ) → u < length ns → Timed m (part ns u bs) (part ns u ts) (map lasts (voice (score_in ns ps xs ds) u))
 
 -- what is left of voice u up to before tick e, where the cursors say which of all events comes next in each voice
 abbrev pub left : List ℕ → List ℕ → List ℕ → List ℕ → ℕ → List ℕ → ℕ → Row

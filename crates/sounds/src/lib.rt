@@ -2,21 +2,20 @@
 //!
 //! The contract of `heard_in` cites `together`, the definition of which crate `laws` proves that it is in order and that nothing of any voice is lost.
 ghost use Rattle.std.specs.Prelude.{◌≡◌, ◌+◌, ◌*◌, ◌^◌, ◌<◌, ◌≤◌, ◌++◌, length, take, drop, replicate, sum, slice_index};
-ghost use Rattle.std.specs.List.{between};
 ghost use Rattle.score.specs.Music.{places, alterations, length_end};
 ghost use Rattle.score.specs.Calls.{all_events, widest_span, together};
 ghost use Rattle.wire.specs.Bytes.{sound_bytes, sounds_bytes};
 ghost use Rattle.memory.specs.Store.{limit_in, score_of};
 ghost use Rattle.memory.specs.Words.{Holds};
-ghost use Rattle.sounds.specs.Spans.{passed, note_ticks, ticks_from, InOrder, Reached, Timed, silences, grain, marks};
-ghost use Rattle.sounds.specs.Scores.{sound_at, score_in, Laid, AllTimed, Ready, all_left};
+ghost use Rattle.sounds.specs.Spans.{passed, note_ticks, ticks_from, silences, grain, marks};
+ghost use Rattle.sounds.specs.Scores.{sound_at, score_in, Laid, Ready, all_left};
 
 mod single;
 
 use keys::tone;
 use score::Sound;
 pub use single::{Notes, heard, notes_heard};
-use voices::{BAR, COUNTS, Regions, VOICES, regions_of};
+use voices::{Regions, regions_of};
 use wire::write_sound;
 
 /// The place of a silence, which no note has.
@@ -30,17 +29,18 @@ const MOST_SLOTS: usize = 512;
 
 const MOST_VOICES: usize = 64;
 
-/// A score as it lies in lent words: how many events each voice has, and the events of all voices, one voice after the other, in three rows. With them
-/// is kept in which bar each begins and at which tick of it, and how many ticks a bar has.
+/// The header's word for how many voices there are; behind the header is the count of the first voice.
+const VOICES: usize = 2;
+
+const COUNTS: usize = 4;
+
+/// A score as it lies in lent words: how many events each voice has, and the events of all voices, one voice after the other, in three rows.
 #[derive(Clone, Copy)]
 struct Rows<'a> {
     counts: &'a [u32],
     places: &'a [u32],
     alterations: &'a [u32],
     lengths: &'a [u32],
-    bars: &'a [u32],
-    beats: &'a [u32],
-    measure: usize,
 }
 
 /// Writes the note of an index in the rows as it is heard, over the first eight bytes.
@@ -58,25 +58,22 @@ fn write_note(rows: Rows, index: usize, voice: u8, start: u32, out: &mut [u8])
     write_sound(out, sound);
 }
 
-/// How many events of a voice begin before a tick, and when the next begins; the tick itself if there is no next.
-fn reach(bars: &[u32], beats: &[u32], measure: usize, from: usize) -> (usize, usize)
-    requires { InOrder measure bars.now beats.now }
-    ensures { Reached from measure bars.now beats.now result.0 result.1 }
+/// The first event of a voice that begins at a tick or later, and when it begins.
+fn reach(lengths: &[u32], from: usize) -> (usize, usize)
+    requires { sum lengths.now < 2 ^ 32 }
+    ensures index { result.0 ≡ passed from 0 lengths.now }
+    ensures tick { result.1 ≡ sum (take result.0 lengths.now) }
+    ensures reached { result.0 < length lengths.now → from ≤ result.1 }
+    ensures inside { result.0 ≤ length lengths.now }
 {
-    let mut low = 0;
-    let mut high = bars.len();
-    let mut tick = from;
-    while low < high {
-        let mid = low + (high - low) / 2;
-        let start = bars[mid] as usize * measure + beats[mid] as usize;
-        if start < from {
-            low = mid + 1;
-        } else {
-            high = mid;
-            tick = start;
+    let mut tick = 0;
+    for (index, length) in lengths.iter().enumerate() {
+        if tick >= from {
+            return (index, tick);
         }
+        tick += *length as usize;
     }
-    (low, tick)
+    (lengths.len(), tick)
 }
 
 /// Sets a voice's bit in the slots in which its notes begin, from a tick on up to the end of the slots.
@@ -109,34 +106,18 @@ fn next_note(places: &[u32], from: usize) -> usize
     at
 }
 
-/// Sets a voice's bit in the slots in which it begins notes, where its events stand in the rows from one index on up to before another. Returns how many
-/// of them begin before the first slot.
-fn mark_voice(
-    rows: Rows,
-    begin: usize,
-    end: usize,
-    voice: u32,
-    first: usize,
-    slots: &mut [u64],
-) -> usize
-    requires there { (begin ≤ end) × ((end ≤ length rows.places.now) × ((length rows.lengths.now ≡ length rows.places.now) × ((length rows.bars.now ≡ length rows.places.now) × (length rows.beats.now ≡ length rows.places.now)))) }
-    requires timed { Timed rows.measure (between begin end rows.bars.now) (between begin end rows.beats.now) (between begin end rows.lengths.now) }
-    requires small { (voice < 64) × ((sum (between begin end rows.lengths.now) < 2 ^ 31) × (grain * first < 2 ^ 32)) }
-    ensures index { result ≡ passed (grain * first) 0 (between begin end rows.entry.lengths.now) }
-    ensures marked { slots.new ≡ marks voice first (ticks_from (grain * (first + length slots.old)) (between begin end rows.entry.places.now) (between begin end rows.entry.lengths.now) result) slots.old }
-    ensures inside { result ≤ length (between begin end rows.entry.lengths.now) }
-    ensures reached { result < length (between begin end rows.entry.lengths.now) → grain * first ≤ sum (take result (between begin end rows.entry.lengths.now)) }
+/// Sets a voice's bit in the slots in which it begins notes. Returns how many of its events begin before the first slot.
+fn mark_voice(places: &[u32], lengths: &[u32], voice: u32, first: usize, slots: &mut [u64]) -> usize
+    requires { (length places.now ≡ length lengths.now) × ((voice < 64) × ((sum lengths.now < 2 ^ 31) × (grain * first < 2 ^ 32))) }
+    ensures index { result ≡ passed (grain * first) 0 lengths.now }
+    ensures marked { slots.new ≡ marks voice first (ticks_from (grain * (first + length slots.old)) places.now lengths.now result) slots.old }
+    ensures inside { result ≤ length lengths.now }
+    ensures reached { result < length lengths.now → grain * first ≤ sum (take result lengths.now) }
 {
-    let (passed, tick) = reach(
-        &rows.bars[begin..end],
-        &rows.beats[begin..end],
-        rows.measure,
-        GRAIN * first,
-    );
-    let next = begin + passed;
+    let (passed, tick) = reach(lengths, GRAIN * first);
     mark(
-        &rows.places[next..end],
-        &rows.lengths[next..end],
+        &places[passed..],
+        &lengths[passed..],
         voice,
         tick,
         first,
@@ -148,7 +129,6 @@ fn mark_voice(
 /// Sets the bits of all voices in the slots in which they begin notes, and each voice's cursor to its first event from the first slot on.
 fn mark_voices(rows: Rows, first: usize, slots: &mut [u64], cursors: &mut [usize])
     requires laid { Laid rows }
-    requires timed { AllTimed rows }
     requires small { (length rows.counts.now ≤ length cursors.old) × (grain * (first + length slots.old) < 2 ^ 32) }
     requires empty { slots.old ≡ replicate (length slots.old) 0 }
     ensures ready { Ready rows.entry (grain * (first + length slots.old)) cursors.new (grain * first) slots.new }
@@ -157,7 +137,13 @@ fn mark_voices(rows: Rows, first: usize, slots: &mut [u64], cursors: &mut [usize
     let mut begin = 0;
     for (voice, count) in rows.counts.iter().enumerate() {
         let end = begin + *count as usize;
-        let passed = mark_voice(rows, begin, end, voice as u32, first, slots);
+        let passed = mark_voice(
+            &rows.places[begin..end],
+            &rows.lengths[begin..end],
+            voice as u32,
+            first,
+            slots,
+        );
         cursors[voice] = begin + passed;
         begin = end;
     }
@@ -203,7 +189,6 @@ fn write_span(
     out: &mut [u8],
 ) -> usize
     requires laid { Laid rows }
-    requires timed { AllTimed rows }
     requires small { (length rows.counts.now ≤ length cursors.old) × (grain * (first + length slots.old) < 2 ^ 32) }
     requires empty { slots.old ≡ replicate (length slots.old) 0 }
     requires room { 8 * all_events (score_in rows) ≤ length out.old }
@@ -219,26 +204,18 @@ fn rows_of(words: &[u32]) -> Rows<'_>
     requires { Holds words.now }
     ensures score { score_in result ≡ score_of words.now }
     ensures laid { Laid result }
-    ensures timed { AllTimed result }
 {
     let voices = words[VOICES] as usize;
     let Regions {
         places,
         alterations,
         lengths,
-        bars,
-        beats,
-        signs,
-        ..
     } = regions_of(words);
     Rows {
         counts: &words[COUNTS..COUNTS + voices],
         places: &words[places..alterations],
         alterations: &words[alterations..lengths],
-        lengths: &words[lengths..bars],
-        bars: &words[bars..beats],
-        beats: &words[beats..signs],
-        measure: words[BAR] as usize,
+        lengths: &words[lengths..],
     }
 }
 

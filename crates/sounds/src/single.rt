@@ -77,7 +77,6 @@ pub fn heard(words: &[u32], voice: u32) -> Option<Notes<'_>>
         places,
         alterations,
         lengths,
-        ..
     } = regions_of(words);
     Some(Notes {
         voice: voice as u8,

@@ -1,21 +1,19 @@
 //! Voices in lent words: where the events of a voice lie, how long it is, and the calls that put, cut and change events.
-ghost use Rattle.std.specs.Prelude.{◌≡◌, ◌+◌, ◌-◌, ◌*◌, ◌^◌, ◌<◌, ◌≤◌, true, false, ◌⊎◌, length, take, sum, MatchOption, ◌≢◌, slice_index, slice_set};
+ghost use Rattle.std.specs.Prelude.{◌≡◌, ◌+◌, ◌-◌, ◌^◌, ◌<◌, ◌≤◌, true, false, length, take, sum, MatchOption, slice_index, slice_set};
 ghost use Rattle.std.specs.Option.{option_map};
 ghost use Rattle.score.specs.Meaning.{event_meant};
 ghost use Rattle.score.specs.Music.{length_end, lasts, total, fine, fine_length};
 ghost use Rattle.score.specs.Calls.{empty_voices, all_events, ticks_end, put as put_call, cut as cut_call, change as change_call, how_long, voice as voice_of_score};
 ghost use Rattle.score.specs.Promise.{GoodLayout, GoodLimits, whole};
 ghost use Rattle.laws.specs.Rows.{event_of};
-ghost use Rattle.memory.specs.Store.{counts_from, marks_asked, words_asked, stands, alters, stored, limits_at, layout_at, voices_in, limit_in, places_from, alterations_from, lengths_from, bars_from, beats_from, signs_from, marks_from, score_of};
+ghost use Rattle.memory.specs.Store.{counts_from, words_asked, stands, alters, stored, limits_at, layout_at, voices_in, limit_in, places_from, alterations_from, lengths_from, score_of};
 ghost use Rattle.memory.specs.Words.{Holds, Spans, answer_at, next_words};
-ghost use Rattle.memory.specs.Moves.{rows_in, rows_out, with_event, without_event, with_other};
+ghost use Rattle.memory.specs.Moves.{with_event, without_event, with_other};
 ghost use Rattle.voices.specs.Rows.{RowOf};
 ghost use Rattle.voices.specs.Said.{said_done, said_number, event_at};
 
-mod keeping;
 mod moves;
 
-use keeping::keep;
 use moves::{insert_at, remove_at};
 use score::{Event, Refusal};
 
@@ -43,34 +41,22 @@ const ALTERATIONS: u8 = 5;
 /// How long no voice may be.
 const TICKS_END: u32 = 1 << 24;
 
-/// What is written for where an event begins before that is derived.
-const UNKNOWN: Row = Row {
-    place: 0,
-    alteration: 0,
-    length: 0,
-};
-
-/// Where the regions begin: of each event its place, its alteration and its length, then where it begins on paper, which is the bar, the tick of that
-/// bar and the sign; and behind them the marks.
+/// Where the regions of places, alterations and lengths begin.
 #[derive(Clone, Copy)]
 pub struct Regions {
     pub places: usize,
     pub alterations: usize,
     pub lengths: usize,
-    pub bars: usize,
-    pub beats: usize,
-    pub signs: usize,
-    pub marks: usize,
 }
 
-/// Where the events of a voice lie in each region: so many words from a beginning on.
+/// Where the events of a voice lie in each of the three regions: so many words from a beginning on.
 #[derive(Clone, Copy)]
 pub struct Span {
     pub begin: usize,
     pub count: usize,
 }
 
-/// An event as it lies in three regions.
+/// An event as it lies in the regions.
 #[derive(Clone, Copy)]
 struct Row {
     place: u32,
@@ -149,28 +135,22 @@ pub fn find_voice(words: &[u32], voice: u32) -> Option<Span>
     Some(Span { begin, count })
 }
 
-/// Where the regions begin, in as many words as are asked for.
+/// Where the regions begin.
 pub fn regions_of(words: &[u32]) -> Regions
-    requires { length words.now ≡ words_asked (voices_in words.now) (limit_in words.now) }
+    requires { Holds words.now }
     ensures places { result.places ≡ places_from words.now }
     ensures alterations { result.alterations ≡ alterations_from words.now }
     ensures lengths { result.lengths ≡ lengths_from words.now }
-    ensures bars { result.bars ≡ bars_from words.now }
-    ensures beats { result.beats ≡ beats_from words.now }
-    ensures signs { result.signs ≡ signs_from words.now }
-    ensures marks { result.marks ≡ marks_from words.now }
-    ensures within { result.marks + marks_asked (limit_in words.now) ≡ length words.now }
+    ensures within { result.lengths + limit_in words.now ≡ length words.now }
 {
     let limit = words[LIMIT] as usize;
     let places = COUNTS + 2 * words[VOICES] as usize;
+    let alterations = places + limit;
+    let lengths = alterations + limit;
     Regions {
         places,
-        alterations: places + limit,
-        lengths: places + 2 * limit,
-        bars: places + 3 * limit,
-        beats: places + 4 * limit,
-        signs: places + 5 * limit,
-        marks: places + 6 * limit,
+        alterations,
+        lengths,
     }
 }
 
@@ -218,30 +198,15 @@ impl Span {
     }
 }
 
-/// The words at a place in each region of events.
-fn row_at(words: &[u32], at: usize) -> Row
-    requires { (length words.now ≡ words_asked (voices_in words.now) (limit_in words.now)) × ((at < limit_in words.now) × ((limit_in words.now ≤ 65536) × (voices_in words.now ≤ 64))) }
-    ensures place { result.place ≡ slice_index words.now (places_from words.now + at) }
-    ensures alteration { result.alteration ≡ slice_index words.now (alterations_from words.now + at) }
-    ensures ticks { result.length ≡ slice_index words.now (lengths_from words.now + at) }
-{
-    let regions = regions_of(words);
-    Row {
-        place: words[regions.places + at],
-        alteration: words[regions.alterations + at],
-        length: words[regions.lengths + at],
-    }
-}
-
 /// The event whose words lie at a place in each region.
 fn event_from(words: &[u32], at: usize) -> Event
     requires { (Holds words.now) × (at < all_events (score_of words.now)) }
     ensures { event_meant result ≡ event_of (slice_index words.now (places_from words.now + at)) (slice_index words.now (alterations_from words.now + at)) (slice_index words.now (lengths_from words.now + at)) }
 {
-    let row = row_at(words, at);
-    let place = row.place as u8;
-    let alteration = row.alteration as u8;
-    let length = row.length as u16;
+    let regions = regions_of(words);
+    let place = words[regions.places + at] as u8;
+    let alteration = words[regions.alterations + at] as u8;
+    let length = words[regions.lengths + at] as u16;
     if place == PLACES {
         return Event::Silence { length };
     }
@@ -257,7 +222,7 @@ fn length_at(words: &[u32], at: usize) -> u32
     requires { (Holds words.now) × (at < limit_in words.now) }
     ensures { result ≡ slice_index words.now (lengths_from words.now + at) }
 {
-    row_at(words, at).length
+    words[regions_of(words).lengths + at]
 }
 
 /// The event of a voice at an index, if it is there.
@@ -358,19 +323,7 @@ fn find_ticks(words: &[u32], voice: usize, less: u32, more: u32) -> Option<u32>
     Some(ticks)
 }
 
-/// A word comes in at a place of each of three regions of `limit` words, of which so many are in use. The first of them begins at a word.
-fn insert_row(words: &mut [u32], begin: usize, limit: usize, used: usize, at: usize, row: Row)
-    requires { (at ≤ used) × ((used < limit) × (begin + 3 * limit ≤ length words.old)) }
-    ensures { words.new ≡ rows_in words.old begin limit used at row.place row.alteration row.length }
-{
-    let next = begin + limit;
-    let last = next + limit;
-    insert_at(words, begin + at, begin + used, row.place);
-    insert_at(words, next + at, next + used, row.alteration);
-    insert_at(words, last + at, last + used, row.length);
-}
-
-/// An event comes in at a place of each region, into a voice that is then so many ticks long. Where it begins on paper is still to be derived.
+/// An event comes in at a place of each region, into a voice that is then so many ticks long.
 fn insert_event(words: &mut [u32], voice: usize, used: usize, at: usize, ticks: u32, row: Row)
     requires { (Holds words.old) × ((voice < voices_in words.old) × ((at ≤ used) × (used < limit_in words.old))) }
     ensures { words.new ≡ with_event words.old voice used at ticks row.place row.alteration row.length }
@@ -378,11 +331,21 @@ fn insert_event(words: &mut [u32], voice: usize, used: usize, at: usize, ticks: 
     let regions = regions_of(words);
     let count = words[COUNTS + voice];
     let ticks_at = COUNTS + words[VOICES] as usize + voice;
-    let limit = words[LIMIT] as usize;
-    insert_row(words, regions.places, limit, used, at, row);
+    insert_at(words, regions.places + at, regions.places + used, row.place);
+    insert_at(
+        words,
+        regions.alterations + at,
+        regions.alterations + used,
+        row.alteration,
+    );
+    insert_at(
+        words,
+        regions.lengths + at,
+        regions.lengths + used,
+        row.length,
+    );
     words[COUNTS + voice] = count + 1;
     words[ticks_at] = ticks;
-    insert_row(words, regions.bars, limit, used, at, UNKNOWN);
 }
 
 /// Puts an event into a voice, before its event of an index or last.
@@ -408,24 +371,7 @@ pub fn put(words: &mut [u32], voice: u32, index: u32, event: Event) -> Result<()
         return Err(Refusal::Full);
     };
     insert_event(words, voice as usize, used, at, ticks, row);
-    let span = Span {
-        begin: span.begin,
-        count: span.count + 1,
-    };
-    keep(words, span, index as usize, span.count);
     Ok(())
-}
-
-/// A word goes out at a place of each of three regions of `limit` words, of which so many are in use. The first of them begins at a word.
-fn remove_row(words: &mut [u32], begin: usize, limit: usize, used: usize, at: usize)
-    requires { (at < used) × ((used ≤ limit) × (begin + 3 * limit ≤ length words.old)) }
-    ensures { words.new ≡ rows_out words.old begin limit used at }
-{
-    let next = begin + limit;
-    let last = next + limit;
-    remove_at(words, begin + at, begin + used);
-    remove_at(words, next + at, next + used);
-    remove_at(words, last + at, last + used);
 }
 
 /// The event at a place goes out of each region, from a voice that is then so many ticks long.
@@ -436,11 +382,11 @@ fn remove_event(words: &mut [u32], voice: usize, used: usize, at: usize, ticks: 
     let regions = regions_of(words);
     let count = words[COUNTS + voice];
     let ticks_at = COUNTS + words[VOICES] as usize + voice;
-    let limit = words[LIMIT] as usize;
-    remove_row(words, regions.places, limit, used, at);
+    remove_at(words, regions.places + at, regions.places + used);
+    remove_at(words, regions.alterations + at, regions.alterations + used);
+    remove_at(words, regions.lengths + at, regions.lengths + used);
     words[COUNTS + voice] = count - 1;
     words[ticks_at] = ticks;
-    remove_row(words, regions.bars, limit, used, at);
 }
 
 /// Cuts the event of an index out of a voice.
@@ -459,11 +405,6 @@ pub fn cut(words: &mut [u32], voice: u32, index: u32) -> Result<(), Refusal>
     let ticks = ticks_of(words, voice as usize) - length_at(words, at);
     let used = events_in(words);
     remove_event(words, voice as usize, used, at, ticks);
-    let span = Span {
-        begin: span.begin,
-        count: span.count - 1,
-    };
-    keep(words, span, index as usize, span.count);
     Ok(())
 }
 
@@ -478,24 +419,6 @@ fn set_event(words: &mut [u32], voice: usize, at: usize, ticks: u32, row: Row)
     words[regions.alterations + at] = row.alteration;
     words[regions.lengths + at] = row.length;
     words[ticks_at] = ticks;
-}
-
-/// How far a change reaches: if it is the same length as what was there, up to the first event behind it that begins in another bar, else to the voice's end.
-fn end_of_change(words: &[u32], span: Span, index: usize, same: bool) -> usize
-    requires { (length words.now ≡ words_asked (voices_in words.now) (limit_in words.now)) × ((index < span.count) × ((span.begin + span.count ≤ limit_in words.now) × (limit_in words.now ≤ 65536))) }
-    ensures behind { index < result }
-    ensures within { result ≤ span.count }
-    ensures other { (result ≡ span.count) ⊎ ((same ≡ true) × (slice_index words.now (bars_from words.now + (span.begin + result)) ≢ slice_index words.now (bars_from words.now + (span.begin + index)))) }
-{
-    if !same {
-        return span.count;
-    }
-    let begin = regions_of(words).bars + span.begin;
-    let mut end = index + 1;
-    while end < span.count && words[begin + end] == words[begin + index] {
-        end += 1;
-    }
-    end
 }
 
 /// Changes the event of an index in a voice into another.
@@ -518,9 +441,7 @@ pub fn change(words: &mut [u32], voice: u32, index: u32, event: Event) -> Result
     let Some(ticks) = find_ticks(words, voice as usize, old, row.length) else {
         return Err(Refusal::Full);
     };
-    let end = end_of_change(words, span, index as usize, row.length == old);
     set_event(words, voice as usize, at, ticks, row);
-    keep(words, span, index as usize, end);
     Ok(())
 }
 
@@ -537,32 +458,17 @@ mod tests {
             length: 48,
         };
         let silence = Event::Silence { length: 96 };
-        let mut words = [1; 21];
+        let mut words = [1; 14];
         lay_out(&mut words, 7, 192, 2, 2);
-        assert_eq!(rt;
-            words,
-            [
-                7, 192, 2, 2, 0, 0, 0, 0, 0, 0, 0, 0, 0, 0, 0, 0, 0, 0, 0, 0, 0,
-            ]
-        );
+        assert_eq!(rt; words, [7, 192, 2, 2, 0, 0, 0, 0, 0, 0, 0, 0, 0, 0]);
         assert_eq!(rt; put(&mut words, 1, 0, c), Ok(()));
         assert_eq!(rt; put(&mut words, 0, 0, silence), Ok(()));
-        assert_eq!(rt;
-            words,
-            [
-                7, 192, 2, 2, 1, 1, 96, 48, 70, 28, 0, 2, 96, 48, 0, 0, 0, 0, 0, 0, 0,
-            ]
-        );
+        assert_eq!(rt; words, [7, 192, 2, 2, 1, 1, 96, 48, 70, 28, 0, 2, 96, 48]);
         assert_eq!(rt; put(&mut words, 0, 1, c), Err(Refusal::Full));
         assert_eq!(rt; change(&mut words, 1, 0, silence), Ok(()));
         assert_eq!(rt; how_long(&words, 1), Ok(96));
         assert_eq!(rt; cut(&mut words, 0, 0), Ok(()));
         assert_eq!(rt; cut(&mut words, 0, 0), Err(Refusal::NoEvent(0)));
-        assert_eq!(rt;
-            words,
-            [
-                7, 192, 2, 2, 0, 1, 0, 96, 70, 0, 0, 0, 96, 0, 0, 0, 0, 0, 0, 0, 0,
-            ]
-        );
+        assert_eq!(rt; words, [7, 192, 2, 2, 0, 1, 0, 96, 70, 0, 0, 0, 96, 0]);
     }
 }

@@ -1,23 +1,27 @@
-use Rattle.std.proofs.Common.{◌≡◌, ℕ, ◌+◌, ◌-◌, ◌%◌, ◌<◌, ◌≤◌, List, drop}
+use Rattle.std.proofs.Common.{◌≡◌, ℕ, ◌+◌, ◌-◌, ◌%◌, ◌<◌, ◌≤◌, List}
 use Rattle.score.specs.Music.{Event}
-use Rattle.score.specs.Print.{lesser}
+use Rattle.score.specs.Print.{Symbol, lesser}
 use Rattle.laws.proofs.Rows.{rest_of}
+use Rattle.engraving.specs.declared.voice.Layout.{Layout}
 use Rattle.engraving.specs.declared.voice.Rows.{Rows}
-use Rattle.engraving.specs.Shown.{left_of}
+use Rattle.engraving.specs.Shown.{asked_for}
 use Rattle.engraving.specs.Voice.{voice_in}
 use Rattle.engraving.proofs.Page.{Page}
 use Rattle.engraving.proofs.Turns.{in_event, in_voice}
 use Rattle.engraving.proofs.print_bars.Given as goal
 
--- the events from number i on
+-- all that is asked for, and the events from number i on
+abbrev pub whole_of : Rows → Layout → ℕ → ℕ → List Symbol
+whole_of r y from n = asked_for y.key y.bar (voice_in r) from n
+
 abbrev pub events_from : Rows → ℕ → List Event
 events_from r i = rest_of r.places.now r.alterations.now r.lengths.now i
 
 -- What is written and what is owed is the whole. The part is what is left in this bar, and each value brings the bar as far on as the event.
 abbrev pub invariant-values : goal.invariant-values
 invariant-values l =
-    Page (left_of l.layout.bar (voice_in l.rows) l.signs l.first l.skip l.count) l.initial.out l.out l.at
-    (in_event l.layout.bar l.begun l.place l.sign l.left (events_from l.rows (l.i + 1)) (drop (l.i + 1) l.signs) l.more)
+    Page (whole_of l.rows l.layout l.from l.count) l.initial.out l.out l.at
+    (in_event l.layout.key l.layout.bar l.begun l.holds l.place l.sign l.left (events_from l.rows (l.i + 1)) l.more)
     × (l.begun ≤ l.layout.bar) × (l.begun % 3 ≡ 0) × (l.left % 3 ≡ 0) × (l.sign ≤ 5) × (l.initial.at ≤ l.at)
     × (l.part ≡ lesser l.left (l.layout.bar - l.begun)) × (l.begun + l.left ≡ l.initial.begun + l.initial.left)
 
@@ -26,8 +30,8 @@ decreases-values l = l.part
 
 abbrev pub invariant-bars : goal.invariant-bars
 invariant-bars l =
-    Page (left_of l.layout.bar (voice_in l.rows) l.signs l.first l.skip l.count) l.initial.out l.out l.at
-    (in_event l.layout.bar l.begun l.place l.sign l.left (events_from l.rows (l.i + 1)) (drop (l.i + 1) l.signs) l.more)
+    Page (whole_of l.rows l.layout l.from l.count) l.initial.out l.out l.at
+    (in_event l.layout.key l.layout.bar l.begun l.holds l.place l.sign l.left (events_from l.rows (l.i + 1)) l.more)
     × (l.begun < l.layout.bar) × (l.begun % 3 ≡ 0) × (l.left % 3 ≡ 0) × (l.sign ≤ 5) × (l.initial.at ≤ l.at) × (0 < l.more)
 
 abbrev pub decreases-bars : goal.decreases-bars
@@ -35,6 +39,6 @@ decreases-bars l = l.left
 
 abbrev pub invariant-events : goal.invariant-events
 invariant-events l =
-    Page (left_of l.layout.bar (voice_in l.rows) l.signs l.first l.skip l.count) l.initial.out l.out l.at
-    (in_voice l.layout.bar l.ahead l.begun (events_from l.rows l.i) (drop l.i l.signs) l.more)
-    × (l.begun < l.layout.bar) × (l.begun % 3 ≡ 0) × (0 < l.more) × (l.ahead % 3 ≡ 0)
+    Page (whole_of l.rows l.layout l.from l.count) l.initial.out l.out l.at
+    (in_voice l.layout.key l.layout.bar l.skip l.begun l.holds (events_from l.rows l.i) l.more)
+    × (l.begun < l.layout.bar) × (l.begun % 3 ≡ 0) × (0 < l.more) × (l.skip % 3 ≡ 0)

@@ -1,5 +1,5 @@
 -- Each turn finds a symbol, plays it and writes down what has ended by it.
-use Rattle.std.proofs.Common.{◌≡◌, ℕ, ◌+◌, List, [], ◌++◌, map, length, drop, sym, ap, ◌∙◌, ap₂, arith, length-drop, rules}
+use Rattle.std.proofs.Common.{◌≡◌, ℕ, ◌+◌, List, [], ◌++◌, map, length, drop, sym, ap, ◌∙◌, arith, length-drop, rules}
 use Rattle.std.proofs.lemmas.List.{append-nil, take_rest, drop-drop}
 use Rattle.score.specs.Meaning.{symbol_meant}
 use Rattle.score.specs.Music as music
@@ -36,8 +36,7 @@ turn : (c : After-play-played) → Found (drop c.symbols.at c.args.bytes.now) (s
     ++ to_hear c.args.signature (symbols_of (drop (c.symbols.at + 5) c.args.bytes.now)) (state_of c.play-played.result.player.time c.play-played.result.player.held c.play-played.new.holds)
 turn c f =
     plays_on c.args.signature (symbol_meant c.in-Some.symbol) c.args.bytes.now c.symbols.at (state_of c.symbols.player.0 c.symbols.player.1.0 c.symbols.holds) _
-    c.play-played.result.first c.play-played.result.second f (omega arith) c.play-played.ensures.keeps
-    (ap₂ ◌++◌ c.play-played.ensures.first c.play-played.ensures.second)
+    c.play-played.result.first c.play-played.result.second f (omega arith) c.play-played.ensures.keeps c.play-played.ensures.ended
 
 pub write-both-notes-requires : goal.write-both-notes-requires
 write-both-notes-requires c =

@@ -14,7 +14,6 @@ write-span-requires c =
     let many = slots_many c.saturating-sub-used.result 512 few in
     record {
       laid = c.rows-of-rows.ensures.laid;
-      timed = c.rows-of-rows.ensures.timed;
       small = (c.rows-of-rows.ensures.laid.few_voices, omega (arith, many, c.div-ceil-first.ensures, c.div-ceil.ensures, c.saturating-sub-used.ensures));
       empty = slots_empty c.saturating-sub-used.result 512 few ∙ ap (λ (n : ℕ). replicate n 0) (sym many);
       room = omega (arith, ap all_events c.rows-of-rows.ensures.score, c.requires.0.kept.fitting, c.requires.1.1);

@@ -3,7 +3,7 @@ use Rattle.std.proofs.Common.{◌≡◌, ℕ, ◌+◌, ◌-◌, ◌*◌, List, [
 use Rattle.std.proofs.lemmas.List.{length-take}
 use Rattle.sounds.specs.Spans.{grain}
 use Rattle.sounds.proofs.Walks.{ticks_more}
-use Rattle.sounds.proofs.Marked.{Marked, marked_none, marked_step, marked_ready, marked_whole, part_short, part_timed}
+use Rattle.sounds.proofs.Marked.{Marked, marked_none, marked_step, marked_ready, marked_whole, part_short, part_long}
 use Rattle.sounds.proofs.mark_voices.Goals as goal
 
 pub loop-voice-init : goal.loop-voice-init
@@ -16,16 +16,24 @@ loop-voice-init c = (
 pub overflow-add-end : goal.overflow-add-end
 overflow-add-end c = let m = ticks_more c.loop-voice.voice c.args.rows.counts.now c.loop-voice-test.true in omega (arith, m.0, m.1, c.loop-voice.invariant.0, c.requires.laid.fitting, c.requires.laid.few_events)
 
+pub offset-bounds-rows-begin : goal.offset-bounds-rows-begin
+offset-bounds-rows-begin c = let m = ticks_more c.loop-voice.voice c.args.rows.counts.now c.loop-voice-test.true in omega (arith, m.0, m.1, c.loop-voice.invariant.0, c.requires.laid.fitting, c.requires.laid.few_events)
+
+pub slice-bounds-mark-voice-end : goal.slice-bounds-mark-voice-end
+slice-bounds-mark-voice-end c = let m = ticks_more c.loop-voice.voice c.args.rows.counts.now c.loop-voice-test.true in omega (arith, m.0, m.1, c.loop-voice.invariant.0, c.requires.laid.fitting)
+
+pub offset-bounds-rows-begin-in-loop-voice : goal.offset-bounds-rows-begin-in-loop-voice
+offset-bounds-rows-begin-in-loop-voice c = let m = ticks_more c.loop-voice.voice c.args.rows.counts.now c.loop-voice-test.true in omega (arith, m.0, m.1, c.loop-voice.invariant.0, c.requires.laid.fitting, c.requires.laid.few_events)
+
+pub slice-bounds-mark-voice-end-in-loop-voice : goal.slice-bounds-mark-voice-end-in-loop-voice
+slice-bounds-mark-voice-end-in-loop-voice c = let m = ticks_more c.loop-voice.voice c.args.rows.counts.now c.loop-voice-test.true in omega (arith, m.0, m.1, c.loop-voice.invariant.0, c.requires.laid.fitting, c.requires.laid.lengths_too)
+
 pub mark-voice-passed-requires : goal.mark-voice-passed-requires
 mark-voice-passed-requires c =
     let n : ℕ = c.loop-voice.begin + get_or c.args.rows.counts.now c.loop-voice.voice 0 in
-    let m = ticks_more c.loop-voice.voice c.args.rows.counts.now c.loop-voice-test.true in
+    let long = part_long _ _ _ _ c.args.first 0 c.requires.laid [] [] c.loop-voice.voice c.loop-voice.begin n c.loop-voice-test.true c.loop-voice.invariant.0 refl in
     let short = part_short _ _ _ _ c.args.first 0 c.requires.laid [] [] c.loop-voice.voice c.loop-voice.begin n c.loop-voice-test.true c.loop-voice.invariant.0 refl in
-    record {
-      there = (omega arith, (omega (arith, m.0, m.1, c.loop-voice.invariant.0, c.requires.laid.fitting), (c.requires.laid.lengths_too, (c.requires.timed.bars_too, c.requires.timed.beats_too))));
-      timed = part_timed _ _ _ _ c.args.first 0 c.requires.laid [] [] c.loop-voice.voice c.loop-voice.begin n c.loop-voice-test.true c.loop-voice.invariant.0 refl _ _ _ c.requires.timed;
-      small = (omega (arith, c.requires.laid.few_voices), (omega (arith, short), omega (arith, c.requires.small.1)));
-    }
+    (long, (omega (arith, c.requires.laid.few_voices), (omega (arith, short), omega (arith, c.requires.small.1))))
 
 pub overflow-add-cursors : goal.overflow-add-cursors
 overflow-add-cursors c =

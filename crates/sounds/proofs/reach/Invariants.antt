@@ -1,10 +1,7 @@
--- The search goes on between two events.
-use Rattle.std.proofs.Common.{◌-◌}
-use Rattle.sounds.proofs.Search.{Searching}
+-- So many events are passed over, and they have so many ticks.
+use Rattle.std.proofs.Common.{◌≡◌, ◌+◌, take, drop, sum}
+use Rattle.sounds.specs.Spans.{passed}
 use Rattle.sounds.proofs.reach.Given as goal
 
-abbrev pub invariant-loop-low : goal.invariant-loop-low
-invariant-loop-low l = Searching l.from l.measure l.bars l.beats l.low l.high l.tick
-
-abbrev pub decreases-loop-low : goal.decreases-loop-low
-decreases-loop-low l = l.high - l.low
+abbrev pub invariant-loop-index : goal.invariant-loop-index
+invariant-loop-index l = (l.tick ≡ sum (take l.index l.lengths)) × (l.index + passed l.from l.tick (drop l.index l.lengths) ≡ passed l.from 0 l.lengths)

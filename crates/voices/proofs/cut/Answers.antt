@@ -1,15 +1,14 @@
 -- A voice or an event that is not there turns the cut away; else the words lie as the score then has them.
-use Rattle.std.proofs.Common.{◌≡◌, ℕ, ◌+◌, ◌-◌, ◌<◌, ◌≤◌, List, length, get_or, take, sym, ◌∙◌, subst, arith}
+use Rattle.std.proofs.Common.{◌≡◌, ℕ, ◌+◌, ◌-◌, ◌<◌, ◌≤◌, List, length, get_or, take, sym, subst, arith}
 use Rattle.score.specs.Music.{silence, lasts, total}
 use Rattle.score.specs.Calls.{cut, all_events, voice, place, told}
 use Rattle.memory.specs.Store.{score_of}
-use Rattle.memory.specs.Words.{Holds, next_words, Between}
+use Rattle.memory.specs.Words.{Holds, next_words}
 use Rattle.memory.proofs.Held.{count_at, place_within, length_there}
 use Rattle.memory.proofs.Changes.{total_cut}
 use Rattle.memory.proofs.Outcomes.{cut_no_voice, cut_no_event, cut_done}
-use Rattle.memory.proofs.Changing.{cut_between}
+use Rattle.memory.proofs.Left.{cut_left}
 use Rattle.voices.proofs.cut.Goals as goal
-use Rattle.voices.proofs.cut.Goals.{After-remove-event}
 
 pub returns-in-default : goal.returns-in-default
 unfolding place
@@ -47,34 +46,18 @@ remove-event-requires c =
     let u = c.events-in-used.ensures in
     (c.requires, (s.there, (omega arith, (omega (arith, g.1, s.begins, u.value), u.small))))
 
--- the words with the event out of them, before what is kept is derived anew
-module _ (c : After-remove-event) where
-  abbrev w : List ℕ
-  w = c.args.words.now
-
-  midway : Between w (cut c.args.voice c.args.index) c.remove-event.new.words c.in-Some.span.begin (c.in-Some.span.count - 1) c.args.index (c.in-Some.span.count - 1)
-  midway =
-      let s = c.in-Some.ensures in
-      let g = c.in-Some-find-event.ensures in
-      let li : c.args.index < length (voice (score_of w) c.args.voice) = omega (arith, s.counts, g.0) in
-      let n = length_there w c.requires c.args.voice c.args.index (silence 0) s.there li c.in-Some-find-event.at (omega (arith, g.1, s.begins)) in
-      let t : c.ticks_of.result - c.length-at.result ≡ total (voice (score_of w) c.args.voice) - lasts (get_or (voice (score_of w) c.args.voice) c.args.index (silence 0)) = omega arith in
-      let b = cut_between w c.requires c.args.voice c.args.index c.in-Some-find-event.at (c.ticks_of.result - c.length-at.result) c.in-Some.span.begin c.in-Some.span.count s.there s g.1 (silence 0) c.events-in-used.result
-      g.0 c.events-in-used.ensures.value t in
-      subst (λ x. Between w (cut c.args.voice c.args.index) x c.in-Some.span.begin (c.in-Some.span.count - 1) c.args.index (c.in-Some.span.count - 1)) (sym c.remove-event.ensures) b
-
-pub keep-requires : goal.keep-requires
-keep-requires c =
-    let g = c.in-Some-find-event.ensures in
-    ((midway (goal.at.keep-requires c).After-remove-event).unkept, (omega (arith, g.0), omega arith))
-
 pub returns : goal.returns
 unfolding told
 returns c =
-    let m = midway (goal.at.returns c).After-remove-event in
     let w : List ℕ = c.args.words.now in
     let s = c.in-Some.ensures in
-    let li : c.args.index < length (voice (score_of w) c.args.voice) = omega (arith, s.counts, c.in-Some-find-event.ensures.0) in
+    let g = c.in-Some-find-event.ensures in
+    let li : c.args.index < length (voice (score_of w) c.args.voice) = omega (arith, s.counts, g.0) in
+    let ej : c.in-Some-find-event.at ≡ all_events (take c.args.voice (score_of w)) + c.args.index = omega (arith, g.1, s.begins) in
+    let n = length_there w c.requires c.args.voice c.args.index (silence 0) s.there li c.in-Some-find-event.at ej in
+    let t : c.ticks-of.result - c.length-at.result ≡ total (voice (score_of w) c.args.voice) - lasts (get_or (voice (score_of w) c.args.voice) c.args.index (silence 0)) = omega arith in
     let d = cut_done w c.requires c.args.voice c.args.index s.there li in
-    let left : c.keep.new.words ≡ next_words w (cut c.args.voice c.args.index) = c.keep.ensures ∙ m.anew in
+    let row = cut_left w c.requires c.args.voice c.args.index c.in-Some-find-event.at (c.ticks-of.result - c.length-at.result) s.there ej (silence 0) c.events-in-used.result li
+    c.events-in-used.ensures.value t in
+    let left : c.remove-event.new.words ≡ next_words w (cut c.args.voice c.args.index) = cc in
     record { said = sym d.said; left = left; holds = subst Holds (sym left) d.holds }

@@ -1,19 +1,22 @@
 -- The words of an event are small enough for its fields.
-use Rattle.std.proofs.Common.{ℕ, List, arith}
+use Rattle.std.proofs.Common.{ℕ, ◌+◌, List, get_or, ap, arith}
 use Rattle.memory.proofs.Held.{words_small}
 use Rattle.voices.proofs.event_from.Goals as goal
 
 pub overflow-cast-place : goal.overflow-cast-place
 overflow-cast-place c =
     let w : List ℕ = c.args.words.now in
-    omega (arith, c.row-at-row.ensures.place, (words_small w c.requires.0 c.args.at c.requires.1).0)
+    let e = ap (λ n. get_or w (n + c.args.at) 0) c.regions-of-regions.ensures.places in
+    omega (arith, (words_small w c.requires.0 c.args.at c.requires.1).0)
 
 pub overflow-cast-alteration : goal.overflow-cast-alteration
 overflow-cast-alteration c =
     let w : List ℕ = c.args.words.now in
-    omega (arith, c.row-at-row.ensures.alteration, (words_small w c.requires.0 c.args.at c.requires.1).1)
+    let e = ap (λ n. get_or w (n + c.args.at) 0) c.regions-of-regions.ensures.alterations in
+    omega (arith, (words_small w c.requires.0 c.args.at c.requires.1).1)
 
 pub overflow-cast-length : goal.overflow-cast-length
 overflow-cast-length c =
     let w : List ℕ = c.args.words.now in
-    omega (arith, c.row-at-row.ensures.ticks, (words_small w c.requires.0 c.args.at c.requires.1).2)
+    let e = ap (λ n. get_or w (n + c.args.at) 0) c.regions-of-regions.ensures.lengths in
+    omega (arith, (words_small w c.requires.0 c.args.at c.requires.1).2)

@@ -15,5 +15,5 @@ unfolding told
 returns c =
     let w : List ℕ = c.args.words.now in
     let there = c.in-Some.ensures in
-    ap number (c.ticks_of.ensures.value ∙ ap (λ n. total (voice (score_of w) n)) there.0)
+    ap number (c.ticks-of.ensures.value ∙ ap (λ n. total (voice (score_of w) n)) there.0)
     ∙ sym (long_done w c.requires c.args.voice (omega (arith, there.0, there.1))).said

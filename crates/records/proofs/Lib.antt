@@ -1,4 +1,0 @@
-pub mod Numbers
-pub mod Steps
-pub mod Law
-pub mod Turns
