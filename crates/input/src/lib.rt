@@ -1,4 +1,5 @@
 //! What the programs read: the file that their first argument names, or standard input.
+#![tactic(auto)]
 use std::io::Read;
 use std::{env, fs, io};
 

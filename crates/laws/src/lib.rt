@@ -1,5 +1,7 @@
 //! Laws of what is heard, printed and read. Each function here has no body to speak of: its contract is a theorem about the definitions in `score`,
 //! for every voice, score and call, and the proof that it cites stands in `proofs/`. Code crates cite the lemmas there.
+#![tactic(auto)]
+
 ghost use Rattle.score.specs.Promise.{ReadsBack, FromABar, BarsFull, SignsNeeded, Fewest, BarsStay, BarsAfter};
 ghost use Rattle.laws.specs.Laying.{ComesTo, LiesOverBars};
 ghost use Rattle.laws.specs.Shown.{BarsHeard};

@@ -1,5 +1,5 @@
 -- What is done with a score, what is asked of it, and what is answered. Assumes nothing: these are definitions.
-use Rattle.std.specs.Prelude.{ℕ, zero, suc, ◌+◌, Bool, true, false, ◌&&◌, ◌||◌, List, [], ◌∷◌, ◌++◌, length, take, drop, ◌==◌, nat_le, nat_lt, slice_index_or, slice_set}
+use Rattle.std.specs.Prelude.{ℕ, zero, suc, ◌+◌, Bool, true, ◌&&◌, ◌||◌, List, [], ◌∷◌, ◌++◌, length, take, drop, ◌==◌, nat_le, nat_lt, slice_index_or, slice_set}
 use Rattle.score.specs.Music.{pick, Event, note, silence, Heard, heard, total, fine}
 use Rattle.score.specs.Print.{Symbol, key, printed, from_bar, so_many}
 

@@ -1,5 +1,7 @@
 //! Scores: the definitions of what is heard, printed and read stand in `specs/`, and here are the types that the code of all crates shares. What a
 //! type means by those definitions is said in `specs/Meaning.antt`.
+#![tactic(auto)]
+
 ghost use Rattle.std.specs.Prelude.{◌≡◌, ◌*◌};
 ghost use Rattle.score.specs.Examples.{WorkedExamples};
 ghost use Rattle.score.specs.Meaning.{refusal_number, refusal_place};

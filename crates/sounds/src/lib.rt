@@ -1,6 +1,7 @@
 //! What is heard of a score: of one voice, and of all voices together in a span of time.
 //!
 //! The contract of `heard_in` cites `together`, the definition of which crate `laws` proves that it is in order and that nothing of any voice is lost.
+#![tactic(auto)]
 ghost use Rattle.std.specs.Prelude.{◌≡◌, ◌+◌, ◌*◌, ◌^◌, ◌<◌, ◌≤◌, ◌++◌, length, take, drop, replicate, sum, slice_index};
 ghost use Rattle.score.specs.Music.{places, alterations, length_end};
 ghost use Rattle.score.specs.Calls.{all_events, widest_span, together};

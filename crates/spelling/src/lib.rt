@@ -1,4 +1,5 @@
 //! How events, symbols, sounds and answers are spelled.
+#![tactic(auto)]
 ghost use Rattle.std.specs.Prelude.{◌≡◌, ℕ, List, [], ◌++◌, map, string_bytes, OnOk};
 ghost use Rattle.score.specs.Calls.{refused};
 ghost use Rattle.score.specs.Meaning.{event_meant, symbol_meant, sound_meant};

@@ -1,4 +1,5 @@
 //! Tests of calls and answers as bytes, in a crate of their own, since a crate with tests is proved twice.
+#![tactic(auto)]
 ghost use Rattle.std.specs.Prelude.{◌<◌};
 
 #[cfg(test)]
