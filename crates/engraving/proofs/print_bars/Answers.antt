@@ -83,18 +83,18 @@ line : (c : Then-begun-layout) →
     ≡ bar ∷ next_bar c.args.layout.key c.args.layout.bar (get_or c.args.rows.places.now c.events.i 0) c.values.sign c.values.left (events_from c.args.rows (c.events.i + 1)) (c.bars.more - 1)
 line c = line_turn c.args.layout.key c.args.layout.bar c.values.begun c.bars.holds (get_or c.args.rows.places.now c.events.i 0) c.values.sign c.values.left _ c.bars.more (omega arith) c.if-begun-layout.true (omega arith)
 
-pub symbol-at-requires : goal.symbol-at-requires
-symbol-at-requires c = let x = event_words (this (goal.at.symbol-at-requires c).Joined-gone-eq0) in (x.place, (omega arith, omega arith))
+pub symbol_at-requires : goal.symbol_at-requires
+symbol_at-requires c = let x = event_words (this (goal.at.symbol_at-requires c).Joined-gone-eq0) in (x.place, (omega arith, omega arith))
 
-pub write-symbol-at-requires : goal.write-symbol-at-requires
-write-symbol-at-requires c = room _ _ c.values.invariant.0 (value (goal.at.write-symbol-at-requires c).After-largest-value) (omega arith)
+pub write_symbol-at-requires : goal.write_symbol-at-requires
+write_symbol-at-requires c = room _ _ c.values.invariant.0 (value (goal.at.write_symbol-at-requires c).After-largest-value) (omega arith)
 
 pub values-preserved : goal.values-preserved
 values-preserved c =
     let e = value (goal.at.values-preserved c).After-largest-value in
     let b = lesser_both c.values.left (c.args.layout.bar - c.values.begun) in (
-      write _ _ c.write-symbol-at.new.out c.write-symbol-at.result c.values.invariant.0 e (omega arith) c.write-symbol-at.ensures.many
-          (c.write-symbol-at.ensures.wrote ∙ ap (λ (x : Symbol). symbol_bytes x ++ drop c.write-symbol-at.result (take (length c.values.out - c.values.at) (drop c.values.at c.values.out))) c.symbol-at.ensures),
+      write _ _ c.write_symbol-at.new.out c.write_symbol-at.result c.values.invariant.0 e (omega arith) c.write_symbol-at.ensures.many
+          (c.write_symbol-at.ensures.wrote ∙ ap (λ (x : Symbol). symbol_bytes x ++ drop c.write_symbol-at.result (take (length c.values.out - c.values.at) (drop c.values.at c.values.out))) c.symbol_at.ensures),
       omega arith,
       omega arith,
       omega arith,
@@ -104,14 +104,14 @@ values-preserved c =
       omega arith,
     )
 
-pub write-symbol-at-requires-then-begun-layout : goal.write-symbol-at-requires-then-begun-layout
-write-symbol-at-requires-then-begun-layout c = room _ _ c.values.invariant.0 (line (goal.at.write-symbol-at-requires-then-begun-layout c).Then-begun-layout) (omega arith)
+pub write_symbol-at-requires-then-begun-layout : goal.write_symbol-at-requires-then-begun-layout
+write_symbol-at-requires-then-begun-layout c = room _ _ c.values.invariant.0 (line (goal.at.write_symbol-at-requires-then-begun-layout c).Then-begun-layout) (omega arith)
 
 pub bars-preserved-then-begun-layout : goal.bars-preserved-then-begun-layout
 bars-preserved-then-begun-layout c =
     let e = line (goal.at.bars-preserved-then-begun-layout c).Then-begun-layout in
-    let w = write _ _ c.write-symbol-at-then-begun-layout.new.out c.write-symbol-at-then-begun-layout.result c.values.invariant.0 e (omega arith) c.write-symbol-at-then-begun-layout.ensures.many c.write-symbol-at-then-begun-layout.ensures.wrote in (
-      leave c.bars.at (owing _ w (begins_bar _ _ _ _ _ _ _ _ c.begin-bar.ensures)) c.bars.invariant.0.back (omega arith),
+    let w = write _ _ c.write_symbol-at-then-begun-layout.new.out c.write_symbol-at-then-begun-layout.result c.values.invariant.0 e (omega arith) c.write_symbol-at-then-begun-layout.ensures.many c.write_symbol-at-then-begun-layout.ensures.wrote in (
+      leave c.bars.at (owing _ w (begins_bar _ _ _ _ _ _ _ _ c.begin_bar.ensures)) c.bars.invariant.0.back (omega arith),
       omega arith,
       refl,
       omega arith,
@@ -142,7 +142,7 @@ returns-after-events c =
 pub returns-then-more-eq0 : goal.returns-then-more-eq0
 returns-then-more-eq0 c =
     let e = line (goal.at.returns-then-more-eq0 c).Then-begun-layout in
-    let w = write _ _ c.write-symbol-at-then-begun-layout.new.out c.write-symbol-at-then-begun-layout.result c.values.invariant.0 e (omega arith) c.write-symbol-at-then-begun-layout.ensures.many c.write-symbol-at-then-begun-layout.ensures.wrote in
+    let w = write _ _ c.write_symbol-at-then-begun-layout.new.out c.write_symbol-at-then-begun-layout.result c.values.invariant.0 e (omega arith) c.write_symbol-at-then-begun-layout.ensures.many c.write_symbol-at-then-begun-layout.ensures.wrote in
     let a = all (leave {was = c.args.out.now} c.events.at (leave {was = c.events.out} c.bars.at w c.bars.invariant.0.back (omega arith)) c.events.invariant.0.back (omega arith)) (no_bar _ _ _ _ _ _ _ c.if-more-eq0.true) in
     record { wrote = a.0; many = a.1 }
 
@@ -151,8 +151,8 @@ bounds-holds-place c =
     let x = event_words (rowed c.args.rows c.args.layout c.events.i c.requires.ready c.events-test.true) in
     omega (arith, x.place)
 
-pub overflow-add-sign : goal.overflow-add-sign
-overflow-add-sign c =
+pub overflow_add-sign : goal.overflow_add-sign
+overflow_add-sign c =
     let x = event_words (rowed c.args.rows c.args.layout c.events.i c.requires.ready c.events-test.true) in
     omega (arith, x.alters (omega (arith, x.place)))
 

@@ -9,8 +9,8 @@ use Rattle.keys.proofs.begin_bar.Goals as goal
 pub loop-place-preserved : goal.loop-place-preserved
 loop-place-preserved c =
     below_more _ _
-    (λ k h. get_or-set_other c.loop-place.holds c.loop-place.place k c.altered-by-key.result 0 (omega arith) ∙ c.loop-place.invariant k h)
-    (get_or-set_same c.loop-place.holds c.loop-place.place c.altered-by-key.result 0 (omega arith) ∙ c.altered-by-key.ensures)
+    (λ k h. get_or-set_other c.loop-place.holds c.loop-place.place k c.altered_by_key.result 0 (omega arith) ∙ c.loop-place.invariant k h)
+    (get_or-set_same c.loop-place.holds c.loop-place.place c.altered_by_key.result 0 (omega arith) ∙ c.altered_by_key.ensures)
 
 pub returns : goal.returns
 unfolding key_row

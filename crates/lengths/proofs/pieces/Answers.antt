@@ -11,14 +11,14 @@ loop-left-init c = (start c.args.n c.args.out.now, writes c.args.n c.args.out.no
 fits : (c : After-largest-value) → c.loop-left.at < length c.loop-left.out
 fits c = room c.args.n c.loop-left.at c.loop-left.left c.args.out.now c.loop-left.out c.loop-left.invariant.0 (omega arith) c.loop-left-test.true
 
-pub offset-bounds-out-at : goal.offset-bounds-out-at
-offset-bounds-out-at c = let h = fits c in omega arith
+pub offset_bounds-out-at : goal.offset_bounds-out-at
+offset_bounds-out-at c = let h = fits c in omega arith
 
 pub bounds-out-at : goal.bounds-out-at
 bounds-out-at c = fits c
 
-pub overflow-add-at : goal.overflow-add-at
-overflow-add-at c = let h = fits c in omega arith
+pub overflow_add-at : goal.overflow_add-at
+overflow_add-at c = let h = fits c in omega arith
 
 pub returns : goal.returns
 returns c =

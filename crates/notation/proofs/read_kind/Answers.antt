@@ -4,4 +4,4 @@ use Rattle.notation.proofs.read_kind.Goals as goal
 
 pub returns : goal.returns
 unfolding kind
-returns c = c.read-one-of.ensures.read
+returns c = c.read_one_of.ensures.read

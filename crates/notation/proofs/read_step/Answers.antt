@@ -4,4 +4,4 @@ use Rattle.notation.proofs.read_step.Goals as goal
 
 pub returns : goal.returns
 unfolding step
-returns c = record { read = c.read-one-of.ensures.read; bound = c.read-one-of.ensures.bound }
+returns c = record { read = c.read_one_of.ensures.read; bound = c.read_one_of.ensures.bound }

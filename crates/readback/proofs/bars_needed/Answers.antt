@@ -3,7 +3,7 @@ use Rattle.std.proofs.Common.{◌+◌, ◌/◌, sym, arith, rules}
 use Rattle.readback.proofs.Checks.{good, page_small}
 use Rattle.readback.proofs.bars_needed.Goals as goal
 
-pub overflow-mul-symbols-2 : goal.overflow-mul-symbols-2
-overflow-mul-symbols-2 c =
-    let g = good c.args.layout (sym c.if-not-is-good.ensures) in
-    omega (arith, page_small c.args.layout.bar (c.in-ok-ticks.ticks / c.args.layout.bar + 1) g.most (search rules))
+pub overflow_mul-symbols-2 : goal.overflow_mul-symbols-2
+overflow_mul-symbols-2 c =
+    let g = good c.args.layout (sym c.if-not-is_good.ensures) in
+    omega (arith, page_small c.args.layout.bar (c.in_ok-ticks.ticks / c.args.layout.bar + 1) g.most (search rules))

@@ -10,54 +10,54 @@ use Rattle.readback.specs.Heard.{page_of}
 use Rattle.readback.proofs.Checks.{Checked, checked}
 use Rattle.readback.proofs.Whole.{front_of, room_for, Printed, shown_is, printed_so, answered_so}
 use Rattle.readback.proofs.read_back.Goals as goal
-use Rattle.readback.proofs.read_back.Goals.{In-ok-bars, After-engrave-bytes}
+use Rattle.readback.proofs.read_back.Goals.{In_ok-bars, After-engrave-bytes}
 
-passed : (c : In-ok-bars) → Checked c.args.rows c.args.layout (length c.args.page.now) (length c.args.notes.now) c.in-ok-bars.bars
-passed c = checked c.args.rows c.args.layout _ _ c.in-ok-bars.bars c.in-ok-bars.ensures
+passed : (c : In_ok-bars) → Checked c.args.rows c.args.layout (length c.args.page.now) (length c.args.notes.now) c.in_ok-bars.bars
+passed c = checked c.args.rows c.args.layout _ _ c.in_ok-bars.bars c.in_ok-bars.ensures
 
 pub engrave-bytes-requires : goal.engrave-bytes-requires
 engrave-bytes-requires c =
-    let k = passed (goal.at.engrave-bytes-requires c).In-ok-bars in
+    let k = passed (goal.at.engrave-bytes-requires c).In_ok-bars in
     record { ready = k.ready; room = (room_for c.args.rows c.args.layout _ _ _ k).0 }
 
 -- the part of the page that is printed
-part : (c : After-engrave-bytes) → take (c.engrave-bytes.result - 0) c.engrave-bytes.new.out ≡ shown c.args.layout.key c.args.layout.bar (voice_in c.args.rows) 0 c.in-ok-bars.bars
+part : (c : After-engrave-bytes) → take (c.engrave-bytes.result - 0) c.engrave-bytes.new.out ≡ shown c.args.layout.key c.args.layout.bar (voice_in c.args.rows) 0 c.in_ok-bars.bars
 part c = front_of c.engrave-bytes.new.out c.args.page.now _ c.engrave-bytes.result c.engrave-bytes.ensures.wrote c.engrave-bytes.ensures.many
 
-read_of : (c : After-engrave-bytes) → Checked c.args.rows c.args.layout (length c.args.page.now) (length c.args.notes.now) c.in-ok-bars.bars →
+read_of : (c : After-engrave-bytes) → Checked c.args.rows c.args.layout (length c.args.page.now) (length c.args.notes.now) c.in_ok-bars.bars →
     Printed c.args.rows c.args.layout (take (c.engrave-bytes.result - 0) c.engrave-bytes.new.out)
-read_of c k = printed_so c.args.rows c.args.layout _ _ c.in-ok-bars.bars _ k (part c)
+read_of c k = printed_so c.args.rows c.args.layout _ _ c.in_ok-bars.bars _ k (part c)
 
-pub slice-bounds-read-end : goal.slice-bounds-read-end
-slice-bounds-read-end c =
-    let k = passed (goal.at.slice-bounds-read-end c).In-ok-bars in
+pub slice_bounds-read-end : goal.slice_bounds-read-end
+slice_bounds-read-end c =
+    let k = passed (goal.at.slice_bounds-read-end c).In_ok-bars in
     let f = (room_for c.args.rows c.args.layout _ _ _ k).0 in
     omega (arith, f, c.engrave-bytes.ensures.many)
 
 pub read-requires : goal.read-requires
 read-requires c =
-    let k = passed (goal.at.read-requires c).In-ok-bars in
+    let k = passed (goal.at.read-requires c).In_ok-bars in
     let d = (goal.at.read-requires c).After-engrave-bytes in
     let f = (room_for c.args.rows c.args.layout _ _ _ k).1 in
     record { long = omega (arith, f, ap length (part d)); room = omega (arith, (read_of d k).few, k.many) }
 
 pub unreachable-requires : goal.unreachable-requires
 unreachable-requires c =
-    let k = passed (goal.at.unreachable-requires c).In-ok-bars in
-    let e = c.in-default.ensures.said ∙ (read_of (goal.at.unreachable-requires c).After-engrave-bytes k).to_end in
+    let k = passed (goal.at.unreachable-requires c).In_ok-bars in
+    let e = c.in_default.ensures.said ∙ (read_of (goal.at.unreachable-requires c).After-engrave-bytes k).to_end in
     let z : ◌≡◌ {A = ℕ} 0 1 = cc in omega arith
 
 pub returns : goal.returns
 returns c =
-    let k = passed (goal.at.returns c).In-ok-bars in
+    let k = passed (goal.at.returns c).In_ok-bars in
     let p = read_of (goal.at.returns c).After-engrave-bytes k in
-    let w = shown_is c.args.rows c.args.layout _ _ c.in-ok-bars.bars k in
+    let w = shown_is c.args.rows c.args.layout _ _ c.in_ok-bars.bars k in
     let b : c.engrave-bytes.result ≡ length (page_of c.args.rows c.args.layout) = c.engrave-bytes.ensures.many ∙ ap length w in
     let o = c.in-Ok.ensures.said ∙ p.to_end in
     let n : c.in-Ok.heard ≡ length (heard (voice_in c.args.rows) 0) = cc in
     let m : c.in-Ok.heard ≡ length (read_from c.args.layout.key (symbols_of (take (c.engrave-bytes.result - 0) c.engrave-bytes.new.out))) = n ∙ sym (ap length p.hears) in
     record {
-      said = answered_so c.args.rows c.args.layout _ _ c.in-ok-bars.bars _ _ c.in-ok-bars.ensures b n;
+      said = answered_so c.args.rows c.args.layout _ _ c.in_ok-bars.bars _ _ c.in_ok-bars.ensures b n;
       left = record {
         printed_so = c.engrave-bytes.ensures.wrote ∙ ap (λ (bs : List ℕ). bs ++ drop c.engrave-bytes.result c.args.page.now) w;
         heard_so = ap (λ (i : ℕ). map heard_meant (take i c.read.new.heard)) m ∙ c.in-Ok.ensures.wrote ∙ p.hears;

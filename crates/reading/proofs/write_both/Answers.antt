@@ -8,7 +8,7 @@ pub returns : goal.returns
 returns c =
     record {
       wrote =
-          put_next c.write-note-at.new.heard c.args.heard.now (listed c.args.first) (listed c.args.second) c.write-note.new.heard c.write-note-at.result c.write-note.result
-          c.write-note-at.ensures.wrote (sym c.write-note-at.ensures.many) c.write-note.ensures.wrote;
+          put_next c.write_note-at.new.heard c.args.heard.now (listed c.args.first) (listed c.args.second) c.write_note.new.heard c.write_note-at.result c.write_note.result
+          c.write_note-at.ensures.wrote (sym c.write_note-at.ensures.many) c.write_note.ensures.wrote;
       many = omega (arith, length-append (listed c.args.first) (listed c.args.second));
     }

@@ -46,6 +46,6 @@ returns-in-Err c =
     let a = refusal_meant c.in-Err.refusal in
     let em = c.taken-asked.ensures.bytes in
     let fb = front b _ _ em in
-    let lb : length c.write-refused.new.out ≡ c.taken-asked.result.bytes = c.write-refused.auto.out ∙ ap length fb ∙ length-take-le _ b c.requires.bytes_room ∙ sym em in
-    refused w b c.args.input.now c.requires a _ c.write-refused.result _ em c.in-Err.ensures lb
-    (c.write-refused.ensures.wrote ∙ ap (λ (x : List ℕ). answer_bytes a ++ drop c.write-refused.result x) fb) c.write-refused.ensures.many
+    let lb : length c.write_refused.new.out ≡ c.taken-asked.result.bytes = c.write_refused.auto.out ∙ ap length fb ∙ length-take-le _ b c.requires.bytes_room ∙ sym em in
+    refused w b c.args.input.now c.requires a _ c.write_refused.result _ em c.in-Err.ensures lb
+    (c.write_refused.ensures.wrote ∙ ap (λ (x : List ℕ). answer_bytes a ++ drop c.write_refused.result x) fb) c.write_refused.ensures.many

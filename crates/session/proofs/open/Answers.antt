@@ -13,11 +13,11 @@ returns c =
     c.fill.ensures.after (λ y h. h) ∙ ap (λ m. replicate m 0) (length-take-le _ _ within ∙ n) in
     record {
       said = s.said;
-      left = opened c.args.opening _ _ _ _ _ _ s.fits s.words_are s.bytes_are c.lay-out.ensures.left zeros;
+      left = opened c.args.opening _ _ _ _ _ _ s.fits s.words_are s.bytes_are c.lay_out.ensures.left zeros;
     }
 
-pub lay-out-requires : goal.lay-out-requires
-lay-out-requires c =
+pub lay_out-requires : goal.lay_out-requires
+lay_out-requires c =
     let s = sized c.args.opening c.in-Some.asked c.in-Some-within.asked (length c.args.words.now) (length c.args.bytes.now) c.in-Some.ensures c.in-Some-within.ensures in
     let g = opens_good c.args.opening s.fits in
     let n : c.in-Some-within.asked.words - 0 ≤ length c.args.words.now = omega (arith, s.words_room) in

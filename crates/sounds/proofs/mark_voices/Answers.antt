@@ -13,42 +13,42 @@ loop-voice-init c = (
       (grain * (c.args.first + length c.args.slots.now)) c.args.cursors.now ms 0) (sym c.requires.empty) (marked_none _ _ _ _ c.args.first _ (length c.args.slots.now) c.args.cursors.now),
 )
 
-pub overflow-add-end : goal.overflow-add-end
-overflow-add-end c = let m = ticks_more c.loop-voice.voice c.args.rows.counts.now c.loop-voice-test.true in omega (arith, m.0, m.1, c.loop-voice.invariant.0, c.requires.laid.fitting, c.requires.laid.few_events)
+pub overflow_add-end : goal.overflow_add-end
+overflow_add-end c = let m = ticks_more c.loop-voice.voice c.args.rows.counts.now c.loop-voice-test.true in omega (arith, m.0, m.1, c.loop-voice.invariant.0, c.requires.laid.fitting, c.requires.laid.few_events)
 
-pub offset-bounds-rows-begin : goal.offset-bounds-rows-begin
-offset-bounds-rows-begin c = let m = ticks_more c.loop-voice.voice c.args.rows.counts.now c.loop-voice-test.true in omega (arith, m.0, m.1, c.loop-voice.invariant.0, c.requires.laid.fitting, c.requires.laid.few_events)
+pub offset_bounds-rows-begin : goal.offset_bounds-rows-begin
+offset_bounds-rows-begin c = let m = ticks_more c.loop-voice.voice c.args.rows.counts.now c.loop-voice-test.true in omega (arith, m.0, m.1, c.loop-voice.invariant.0, c.requires.laid.fitting, c.requires.laid.few_events)
 
-pub slice-bounds-mark-voice-end : goal.slice-bounds-mark-voice-end
-slice-bounds-mark-voice-end c = let m = ticks_more c.loop-voice.voice c.args.rows.counts.now c.loop-voice-test.true in omega (arith, m.0, m.1, c.loop-voice.invariant.0, c.requires.laid.fitting)
+pub slice_bounds-mark_voice-end : goal.slice_bounds-mark_voice-end
+slice_bounds-mark_voice-end c = let m = ticks_more c.loop-voice.voice c.args.rows.counts.now c.loop-voice-test.true in omega (arith, m.0, m.1, c.loop-voice.invariant.0, c.requires.laid.fitting)
 
-pub offset-bounds-rows-begin-in-loop-voice : goal.offset-bounds-rows-begin-in-loop-voice
-offset-bounds-rows-begin-in-loop-voice c = let m = ticks_more c.loop-voice.voice c.args.rows.counts.now c.loop-voice-test.true in omega (arith, m.0, m.1, c.loop-voice.invariant.0, c.requires.laid.fitting, c.requires.laid.few_events)
+pub offset_bounds-rows-begin-in-loop-voice : goal.offset_bounds-rows-begin-in-loop-voice
+offset_bounds-rows-begin-in-loop-voice c = let m = ticks_more c.loop-voice.voice c.args.rows.counts.now c.loop-voice-test.true in omega (arith, m.0, m.1, c.loop-voice.invariant.0, c.requires.laid.fitting, c.requires.laid.few_events)
 
-pub slice-bounds-mark-voice-end-in-loop-voice : goal.slice-bounds-mark-voice-end-in-loop-voice
-slice-bounds-mark-voice-end-in-loop-voice c = let m = ticks_more c.loop-voice.voice c.args.rows.counts.now c.loop-voice-test.true in omega (arith, m.0, m.1, c.loop-voice.invariant.0, c.requires.laid.fitting, c.requires.laid.lengths_too)
+pub slice_bounds-mark_voice-end-in-loop-voice : goal.slice_bounds-mark_voice-end-in-loop-voice
+slice_bounds-mark_voice-end-in-loop-voice c = let m = ticks_more c.loop-voice.voice c.args.rows.counts.now c.loop-voice-test.true in omega (arith, m.0, m.1, c.loop-voice.invariant.0, c.requires.laid.fitting, c.requires.laid.lengths_too)
 
-pub mark-voice-passed-requires : goal.mark-voice-passed-requires
-mark-voice-passed-requires c =
+pub mark_voice-passed-requires : goal.mark_voice-passed-requires
+mark_voice-passed-requires c =
     let n : ℕ = c.loop-voice.begin + get_or c.args.rows.counts.now c.loop-voice.voice 0 in
     let long = part_long _ _ _ _ c.args.first 0 c.requires.laid [] [] c.loop-voice.voice c.loop-voice.begin n c.loop-voice-test.true c.loop-voice.invariant.0 refl in
     let short = part_short _ _ _ _ c.args.first 0 c.requires.laid [] [] c.loop-voice.voice c.loop-voice.begin n c.loop-voice-test.true c.loop-voice.invariant.0 refl in
     (long, (omega (arith, c.requires.laid.few_voices), (omega (arith, short), omega (arith, c.requires.small.1))))
 
-pub overflow-add-cursors : goal.overflow-add-cursors
-overflow-add-cursors c =
+pub overflow_add-cursors : goal.overflow_add-cursors
+overflow_add-cursors c =
     let n : ℕ = c.loop-voice.begin + get_or c.args.rows.counts.now c.loop-voice.voice 0 in
     let m = ticks_more c.loop-voice.voice c.args.rows.counts.now c.loop-voice-test.true in
     let l = length-take (n - c.loop-voice.begin) (drop c.loop-voice.begin c.args.rows.lengths.now) in
-    omega (arith, m.0, m.1, c.loop-voice.invariant.0, c.requires.laid.fitting, c.requires.laid.few_events, c.mark-voice-passed.ensures.inside, l)
+    omega (arith, m.0, m.1, c.loop-voice.invariant.0, c.requires.laid.fitting, c.requires.laid.few_events, c.mark_voice-passed.ensures.inside, l)
 
 pub loop-voice-preserved : goal.loop-voice-preserved
 loop-voice-preserved c =
     let m = ticks_more c.loop-voice.voice c.args.rows.counts.now c.loop-voice-test.true in (
       omega (arith, m.0, c.loop-voice.invariant.0),
-      marked_step (c.loop-voice.begin + get_or c.args.rows.counts.now c.loop-voice.voice 0) c.mark-voice-passed.result c.mark-voice-passed.new.slots c.requires.laid
+      marked_step (c.loop-voice.begin + get_or c.args.rows.counts.now c.loop-voice.voice 0) c.mark_voice-passed.result c.mark_voice-passed.new.slots c.requires.laid
           c.loop-voice-test.true c.loop-voice.invariant.0 refl (omega (arith, c.requires.small.0)) c.loop-voice.auto.slots c.loop-voice.invariant.1
-          c.mark-voice-passed.ensures.index c.mark-voice-passed.ensures.reached c.mark-voice-passed.ensures.marked,
+          c.mark_voice-passed.ensures.index c.mark_voice-passed.ensures.reached c.mark_voice-passed.ensures.marked,
     )
 
 pub returns : goal.returns

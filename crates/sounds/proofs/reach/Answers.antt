@@ -13,8 +13,8 @@ returns-then-tick-from c =
       inside = c.loop-index.auto.index-end;
     }
 
-pub overflow-add-tick : goal.overflow-add-tick
-overflow-add-tick c = let m = ticks_more c.loop-index.index c.args.lengths.now c.loop-index-test.true in omega (arith, m.0, m.1)
+pub overflow_add-tick : goal.overflow_add-tick
+overflow_add-tick c = let m = ticks_more c.loop-index.index c.args.lengths.now c.loop-index-test.true in omega (arith, m.0, m.1)
 
 pub loop-index-preserved : goal.loop-index-preserved
 loop-index-preserved c =

@@ -5,6 +5,6 @@ use Rattle.sounds.proofs.rows_of.Goals as goal
 pub returns : goal.returns
 returns c =
     record {
-      score = rows_score c.args.words.now c.requires _ _ _ c.regions-of-places.ensures.places c.regions-of-places.ensures.alterations c.regions-of-places.ensures.lengths;
-      laid = rows_laid c.args.words.now c.requires _ _ _ c.regions-of-places.ensures.places c.regions-of-places.ensures.alterations c.regions-of-places.ensures.lengths;
+      score = rows_score c.args.words.now c.requires _ _ _ c.regions_of-places.ensures.places c.regions_of-places.ensures.alterations c.regions_of-places.ensures.lengths;
+      laid = rows_laid c.args.words.now c.requires _ _ _ c.regions_of-places.ensures.places c.regions_of-places.ensures.alterations c.regions_of-places.ensures.lengths;
     }

@@ -11,11 +11,11 @@ pub loop-voices-init : goal.loop-voices-init
 loop-voices-init c = (
   writing_start (subst (Ready c.args.rows.counts.now c.args.rows.places.now c.args.rows.alterations.now c.args.rows.lengths.now (grain * (c.args.first + length c.args.slots.now)) c.loop-index.cursors (grain * (c.args.first + c.loop-index.index)))
       (drop_more c.args.slots.now c.loop-index.index 0 c.loop-index-test.true) c.loop-index.invariant.ready),
-  omega (arith, c.type-inv.voices),
+  omega (arith, c.type_inv.voices),
 )
 
-pub overflow-shl-voices : goal.overflow-shl-voices
-overflow-shl-voices c =
+pub overflow_shl-voices : goal.overflow_shl-voices
+overflow_shl-voices c =
     let u = writing-next c.requires.laid (omega (arith, c.requires.small.0)) c.loop-voices.invariant.0 c.loop-voices-test.true c.loop-voices.invariant.1 _ refl in
     omega (arith, u.there, c.requires.laid.few_voices)
 
@@ -24,9 +24,9 @@ bounds-cursors-voice c =
     let u = writing-next c.requires.laid (omega (arith, c.requires.small.0)) c.loop-voices.invariant.0 c.loop-voices-test.true c.loop-voices.invariant.1 _ refl in
     omega (arith, u.there, c.requires.small.0)
 
-pub overflow-add-cursors : goal.overflow-add-cursors
-overflow-add-cursors c =
-    let u = writing-next c.requires.laid (omega (arith, c.requires.small.0)) c.loop-voices.invariant.0 c.loop-voices-test.true c.loop-voices.invariant.1 c.next-note-at.result c.next-note-at.ensures in
+pub overflow_add-cursors : goal.overflow_add-cursors
+overflow_add-cursors c =
+    let u = writing-next c.requires.laid (omega (arith, c.requires.small.0)) c.loop-voices.invariant.0 c.loop-voices-test.true c.loop-voices.invariant.1 c.next_note-at.result c.next_note-at.ensures in
     omega (arith, u.in_rows, c.requires.laid.few_events)
 
 pub bounds-cursors-voice-in-loop-voices : goal.bounds-cursors-voice-in-loop-voices
@@ -34,9 +34,9 @@ bounds-cursors-voice-in-loop-voices c =
     let u = writing-next c.requires.laid (omega (arith, c.requires.small.0)) c.loop-voices.invariant.0 c.loop-voices-test.true c.loop-voices.invariant.1 _ refl in
     omega (arith, u.there, c.requires.small.0)
 
-pub write-note-requires : goal.write-note-requires
-write-note-requires c =
-    let u = writing-next c.requires.laid (omega (arith, c.requires.small.0)) c.loop-voices.invariant.0 c.loop-voices-test.true c.loop-voices.invariant.1 c.next-note-at.result c.next-note-at.ensures in
+pub write_note-requires : goal.write_note-requires
+write_note-requires c =
+    let u = writing-next c.requires.laid (omega (arith, c.requires.small.0)) c.loop-voices.invariant.0 c.loop-voices-test.true c.loop-voices.invariant.1 c.next_note-at.result c.next_note-at.ensures in
     let room = writing-room (length c.args.out.now) c.loop-index.invariant c.loop-voices.invariant.0 u c.requires.room in (
       (u.in_rows, (omega (arith, u.in_rows, c.requires.laid.alterations_too), (omega (arith, u.in_rows, c.requires.laid.lengths_too), simp (take_rest, length-drop) (omega (arith, room))))),
       (u.place, (u.alteration, u.long)),
@@ -44,17 +44,17 @@ write-note-requires c =
 
 pub loop-voices-smaller : goal.loop-voices-smaller
 loop-voices-smaller c =
-    let u = writing-next c.requires.laid (omega (arith, c.requires.small.0)) c.loop-voices.invariant.0 c.loop-voices-test.true c.loop-voices.invariant.1 c.next-note-at.result c.next-note-at.ensures in
+    let u = writing-next c.requires.laid (omega (arith, c.requires.small.0)) c.loop-voices.invariant.0 c.loop-voices-test.true c.loop-voices.invariant.1 c.next_note-at.result c.next_note-at.ensures in
     omega (arith, ap length u.next)
 
 pub loop-voices-preserved : goal.loop-voices-preserved
 loop-voices-preserved c =
-    let u = writing-next c.requires.laid (omega (arith, c.requires.small.0)) c.loop-voices.invariant.0 c.loop-voices-test.true c.loop-voices.invariant.1 c.next-note-at.result c.next-note-at.ensures in
+    let u = writing-next c.requires.laid (omega (arith, c.requires.small.0)) c.loop-voices.invariant.0 c.loop-voices-test.true c.loop-voices.invariant.1 c.next_note-at.result c.next_note-at.ensures in
     let room = writing-room (length c.args.out.now) c.loop-index.invariant c.loop-voices.invariant.0 u c.requires.room in
     let few : count_trailing_zeros 64 c.loop-voices.voices < 64 = omega (arith, u.there, c.requires.laid.few_voices) in
     let mask = one_shl (count_trailing_zeros 64 c.loop-voices.voices) 64 few in
     simp mask (
-      writing-turn c.write-note.new.out c.loop-voices.invariant.0 u (omega (arith, room)) c.write-note.ensures,
+      writing-turn c.write_note.new.out c.loop-voices.invariant.0 u (omega (arith, room)) c.write_note.ensures,
       xor_lt 64 _ _ c.loop-voices.invariant.1 (pow_below _ 64 few),
     )
 

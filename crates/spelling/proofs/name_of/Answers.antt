@@ -14,8 +14,8 @@ returns-in-1 c = sym (ap alteration_name c.in-1.is)
 pub returns-in-3 : goal.returns-in-3
 returns-in-3 c = sym (ap alteration_name c.in-3.is)
 
-pub returns-in-default : goal.returns-in-default
-returns-in-default c =
+pub returns-in_default : goal.returns-in_default
+returns-in_default c =
     sym
     (pick_false _ _ _ (ne_eqb c.args.alteration 0 (omega arith)) ∙ pick_false _ _ _ (ne_eqb c.args.alteration 1 (omega arith))
     ∙ pick_false _ _ _ (ne_eqb c.args.alteration 2 (omega arith)) ∙ pick_false _ _ _ (ne_eqb c.args.alteration 3 (omega arith)))

@@ -9,5 +9,5 @@ returns g c = row-over _ _ _ _ _ _ _ c.loop-item-test.false c.loop-item.invarian
 pub loop-item-preserved : goal.loop-item-preserved
 loop-item-preserved g c = (
   search rules,
-  row_more _ _ _ _ _ _ _ _ _ _ c.loop-item-test.true c.item-item.is c.in-ok-write.ensures.bytes c.in-ok-spell.ensures c.loop-item.invariant.1,
+  row_more _ _ _ _ _ _ _ _ _ _ c.loop-item-test.true c.item-item.is c.in_ok-write.ensures.bytes c.in_ok-spell.ensures c.loop-item.invariant.1,
 )

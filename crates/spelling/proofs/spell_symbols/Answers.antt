@@ -7,5 +7,5 @@ use Rattle.spelling.proofs.spell_symbols.Goals as goal
 
 pub returns : goal.returns
 returns c =
-    retold c.spell-row.result (string_bytes c.spell-row.new.out) (string_bytes c.args.out.now) _ _
-    (row-meant spelled_symbol symbol_meant [] (codes " ") c.args.symbols.now) c.spell-row.ensures
+    retold c.spell_row.result (string_bytes c.spell_row.new.out) (string_bytes c.args.out.now) _ _
+    (row-meant spelled_symbol symbol_meant [] (codes " ") c.args.symbols.now) c.spell_row.ensures

@@ -4,4 +4,4 @@ use Rattle.text.proofs.read_beginning.Goals as goal
 
 pub returns : goal.returns
 unfolding beginning
-returns c = c.read-one-of.ensures.read
+returns c = c.read_one_of.ensures.read

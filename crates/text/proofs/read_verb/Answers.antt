@@ -4,4 +4,4 @@ use Rattle.text.proofs.read_verb.Goals as goal
 
 pub returns : goal.returns
 unfolding verb
-returns c = c.read-one-of.ensures.read
+returns c = c.read_one_of.ensures.read

@@ -3,8 +3,8 @@ use Rattle.std.proofs.Common.{◌∙◌, arith}
 use Rattle.memory.proofs.Held.{counts_sum, few_before}
 use Rattle.voices.proofs.events_before.Goals as goal
 
-pub sum-of-requires : goal.sum-of-requires
-sum-of-requires c =
+pub sum_of-requires : goal.sum_of-requires
+sum_of-requires c =
     let s = counts_sum c.args.words.now c.requires.0 c.args.voice c.requires.1 in
     let f = few_before c.args.words.now c.requires.0 c.args.voice in
     omega arith
@@ -13,4 +13,4 @@ pub returns : goal.returns
 returns c =
     let s = counts_sum c.args.words.now c.requires.0 c.args.voice c.requires.1 in
     let f = few_before c.args.words.now c.requires.0 c.args.voice in
-    record { value = c.sum-of.ensures ∙ s; small = omega arith }
+    record { value = c.sum_of.ensures ∙ s; small = omega arith }

@@ -4,4 +4,4 @@ use Rattle.memory.proofs.Held.{all_before}
 use Rattle.voices.proofs.events_in.Goals as goal
 
 pub returns : goal.returns
-returns c = record { value = c.events-before.ensures.value ∙ all_before c.args.words.now c.requires; small = c.events-before.ensures.small }
+returns c = record { value = c.events_before.ensures.value ∙ all_before c.args.words.now c.requires; small = c.events_before.ensures.small }

@@ -11,27 +11,27 @@ use Rattle.voices.specs.Said.{event_at}
 use Rattle.memory.proofs.Held.{no_voice, place_within, event_there}
 use Rattle.voices.proofs.find_event.Goals as goal
 
-pub returns-in-err-span : goal.returns-in-err-span
-returns-in-err-span c =
+pub returns-in_err-span : goal.returns-in_err-span
+returns-in_err-span c =
     let w : List ℕ = c.args.words.now in
-    let z = no_voice w c.requires c.args.voice c.in-err-span.ensures in
+    let z = no_voice w c.requires c.args.voice c.in_err-span.ensures in
     ap (option_map event_meant) c.from-residual.ensures ∙ sym (pick_false _ _ _ (le-ltb c.args.index (length (voice (score_of w) c.args.voice)) (omega arith)))
 
-pub event-from-requires : goal.event-from-requires
-event-from-requires c =
+pub event_from-requires : goal.event_from-requires
+event_from-requires c =
     let w : List ℕ = c.args.words.now in
-    let s = c.in-ok-span.ensures in
-    let a = c.in-ok-at.ensures in
+    let s = c.in_ok-span.ensures in
+    let a = c.in_ok-at.ensures in
     let li : c.args.index < length (voice (score_of w) c.args.voice) = omega (arith, s.counts, a.0) in
     (c.requires, omega (arith, a.1, s.begins, place_within w c.requires c.args.voice c.args.index s.there li))
 
 pub returns : goal.returns
 returns c =
     let w : List ℕ = c.args.words.now in
-    let s = c.in-ok-span.ensures in
-    let a = c.in-ok-at.ensures in
+    let s = c.in_ok-span.ensures in
+    let a = c.in_ok-at.ensures in
     let li : c.args.index < length (voice (score_of w) c.args.voice) = omega (arith, s.counts, a.0) in
-    let e = event_there w c.requires c.args.voice c.args.index (silence 0) s.there li c.in-ok-at.at (omega (arith, a.1, s.begins)) in
+    let e = event_there w c.requires c.args.voice c.args.index (silence 0) s.there li c.in_ok-at.at (omega (arith, a.1, s.begins)) in
     let there : event_at (score_of w) c.args.voice c.args.index ≡ Some (get_or (voice (score_of w) c.args.voice) c.args.index (silence 0)) =
     pick_true _ _ _ (lt-ltb c.args.index _ li) in
     cc

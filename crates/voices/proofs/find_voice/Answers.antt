@@ -8,6 +8,6 @@ use Rattle.voices.proofs.find_voice.Goals as goal
 pub returns : goal.returns
 returns c =
     let w : List ℕ = c.args.words.now in
-    let there = c.in-ok-index.ensures in
+    let there = c.in_ok-index.ensures in
     spans w c.requires c.args.voice _ _ (omega (arith, there.0, there.1))
-    (c.events-before-begin.ensures.value ∙ ap (λ n. all_events (take n (score_of w))) there.0) (ap (λ n. get_or w (4 + n) 0) there.0)
+    (c.events_before-begin.ensures.value ∙ ap (λ n. all_events (take n (score_of w))) there.0) (ap (λ n. get_or w (4 + n) 0) there.0)

@@ -6,14 +6,14 @@ use Rattle.memory.specs.Store.{score_of}
 use Rattle.memory.proofs.Outcomes.{long_no_voice, long_done}
 use Rattle.voices.proofs.how_long.Goals as goal
 
-pub returns-in-default : goal.returns-in-default
+pub returns-in_default : goal.returns-in_default
 unfolding place
-returns-in-default c = sym (long_no_voice c.args.words.now c.requires c.args.voice c.in-default.ensures).said
+returns-in_default c = sym (long_no_voice c.args.words.now c.requires c.args.voice c.in_default.ensures).said
 
 pub returns : goal.returns
 unfolding told
 returns c =
     let w : List ℕ = c.args.words.now in
     let there = c.in-Some.ensures in
-    ap number (c.ticks-of.ensures.value ∙ ap (λ n. total (voice (score_of w) n)) there.0)
+    ap number (c.ticks_of.ensures.value ∙ ap (λ n. total (voice (score_of w) n)) there.0)
     ∙ sym (long_done w c.requires c.args.voice (omega (arith, there.0, there.1))).said

@@ -4,8 +4,8 @@ use Rattle.memory.specs.Moves.{rows_in, with_event}
 use Rattle.memory.proofs.Held.{count_at, within_limit}
 use Rattle.voices.proofs.insert_event.Goals as goal
 
-pub overflow-add-words : goal.overflow-add-words
-overflow-add-words c =
+pub overflow_add-words : goal.overflow_add-words
+overflow_add-words c =
     let n = count_at c.args.words.now c.requires.0 c.args.voice c.requires.1.0 in
     let l = within_limit c.args.words.now c.requires.0 c.args.voice c.requires.1.0 in
     omega (arith, c.requires.0.few_events)

@@ -15,9 +15,9 @@ returns-then-alteration-ge-ALTERATIONS c =
 
 pub returns-else-alteration-ge-ALTERATIONS : goal.returns-else-alteration-ge-ALTERATIONS
 returns-else-alteration-ge-ALTERATIONS c =
-    c.is-fine-length.ensures
+    c.is_fine_length.ensures
     ∙ sym (ap (λ e. fine (event_meant e)) c.in-Note.is
     ∙ fine_by_length c.in-Note.place c.in-Note.alteration c.in-Note.length c.if-place-ge-PLACES.false c.if-alteration-ge-ALTERATIONS.false)
 
 pub returns-in-Silence : goal.returns-in-Silence
-returns-in-Silence c = c.is-fine-length-in-Silence.ensures ∙ sym (ap (λ e. fine (event_meant e)) c.in-Silence.is ∙ fine_silence c.in-Silence.length)
+returns-in-Silence c = c.is_fine_length-in-Silence.ensures ∙ sym (ap (λ e. fine (event_meant e)) c.in-Silence.is ∙ fine_silence c.in-Silence.length)

@@ -18,5 +18,5 @@ returns c =
     let zeros : c.fill.new.self ≡ replicate (length c.args.words.now) 0 = c.fill.ensures.after (λ x h. h) in
     let laid = ap (λ w. set (set (set (set w 0 k) 1 b) 2 v) 3 n) zeros in
     let opened = opened_is l y (length c.args.words.now) c.requires.size in
-    let left : c.write-header.new.words ≡ stored l y (empty_voices v) = cc in
+    let left : c.write_header.new.words ≡ stored l y (empty_voices v) = cc in
     record { left = left; holds = subst Holds (sym left) (holds_opened l y c.requires.limits c.requires.layout) }

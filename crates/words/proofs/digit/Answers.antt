@@ -3,8 +3,8 @@ use Rattle.words.proofs.Steps.{none_empty, none_below, none_above}
 use Rattle.words.proofs.digit.Goals as goal
 use Rattle.words.proofs.digit.Goals.{then-first-lt48-via-then-first-lt48, then-first-lt48-via-else-first-lt48+then-first-gt57}
 
-pub returns-in-default : goal.returns-in-default
-returns-in-default c = none_empty _ c.in-default.ensures.cases
+pub returns-in_default : goal.returns-in_default
+returns-in_default c = none_empty _ c.in_default.ensures.cases
 
 pub returns-then-first-lt48 : goal.returns-then-first-lt48
 returns-then-first-lt48 c =

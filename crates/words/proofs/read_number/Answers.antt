@@ -5,9 +5,9 @@ use Rattle.words.specs.Words.{number}
 use Rattle.words.proofs.Steps.{number_begun, digit_fits, digit_too_much, digits_over}
 use Rattle.words.proofs.read_number.Goals as goal
 
-pub returns-in-default : goal.returns-in-default
+pub returns-in_default : goal.returns-in_default
 unfolding number
-returns-in-default c = record { read = sym (pick_false _ _ _ c.in-default.ensures); bound = tt }
+returns-in_default c = record { read = sym (pick_false _ _ _ c.in_default.ensures); bound = tt }
 
 pub returns-then-next-most : goal.returns-then-next-most
 returns-then-next-most c =
@@ -27,6 +27,6 @@ pub returns : goal.returns
 returns c =
     let b = c.in-Some.ensures in
     record {
-      read = sym (digits_over _ _ _ c.in-default-digit.ensures) ∙ c.loop-d.invariant.0 ∙ number_begun _ _ _ _ b.0 b.1;
+      read = sym (digits_over _ _ _ c.in_default-digit.ensures) ∙ c.loop-d.invariant.0 ∙ number_begun _ _ _ _ b.0 b.1;
       bound = c.loop-d.invariant.1;
     }

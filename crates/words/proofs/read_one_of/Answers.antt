@@ -9,12 +9,12 @@ use Rattle.words.proofs.read_one_of.Goals.{then-rest-furthest, else-rest-furthes
 pub returns-in-Ok : goal.returns-in-Ok
 returns-in-Ok c =
     let h : c.loop-i.i < length c.args.words.now = omega arith in
-    record { read = word_fits _ _ _ _ _ _ _ _ h c.as-bytes.ensures.value c.in-Ok.ensures ∙ c.loop-i.invariant; bound = h }
+    record { read = word_fits _ _ _ _ _ _ _ _ h c.as_bytes.ensures.value c.in-Ok.ensures ∙ c.loop-i.invariant; bound = h }
 
 pub loop-i-preserved : goal.loop-i-preserved
 loop-i-preserved c =
     let h : c.loop-i.i < length c.args.words.now = omega arith in
-    word-unfit _ _ _ _ _ _ _ _ h c.as-bytes.ensures.value c.in-Err.ensures
+    word-unfit _ _ _ _ _ _ _ _ h c.as_bytes.ensures.value c.in-Err.ensures
     (elim c.if-rest-furthest.branch [
       | then-rest-furthest w ↦ ap (λ x. x.now) w.furthest-is ∙ sym (pick_true _ _ _ (lt-ltb _ _ w.if-rest-furthest.true))
       | else-rest-furthest w ↦ ap (λ x. x.now) w.furthest-is ∙ sym (pick_false _ _ _ (le-ltb _ _ w.if-rest-furthest.false))

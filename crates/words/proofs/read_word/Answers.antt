@@ -3,10 +3,10 @@ use Rattle.std.proofs.Common.{◌≡◌, ◌<◌, ◌≤◌, length, sym, ◌∙
 use Rattle.words.proofs.Steps.{letter_same, letter_other, letter_none, letters_over}
 use Rattle.words.proofs.read_word.Goals as goal
 
-pub returns-in-default : goal.returns-in-default
-returns-in-default c =
+pub returns-in_default : goal.returns-in_default
+returns-in_default c =
     let h : c.loop-letter.letter-index < length c.args.word.now = omega arith in
-    sym (letter_none _ _ _ h c.in-default.ensures.cases) ∙ c.loop-letter.invariant
+    sym (letter_none _ _ _ h c.in_default.ensures.cases) ∙ c.loop-letter.invariant
 
 pub returns-then-first-letter : goal.returns-then-first-letter
 returns-then-first-letter c =

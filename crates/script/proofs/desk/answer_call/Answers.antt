@@ -6,17 +6,17 @@ use Rattle.spelling.proofs.Rows.{retold}
 use Rattle.script.proofs.Answering.{room, told, left}
 use Rattle.script.proofs.desk.answer_call.Goals as goal
 
-pub slice-bounds-spell-answer-end : goal.slice-bounds-spell-answer-end
-slice-bounds-spell-answer-end c =
-    room _ _ _ _ _ _ (call_meant c.args.asked) _ _ c.write-call-length.ensures.wrote c.write-call-length.ensures.many c.call-answered.ensures
+pub slice_bounds-spell_answer-end : goal.slice_bounds-spell_answer-end
+slice_bounds-spell_answer-end c =
+    room _ _ _ _ _ _ (call_meant c.args.asked) _ _ c.write_call-length.ensures.wrote c.write_call-length.ensures.many c.call-answered.ensures
 
 pub returns : goal.returns
 returns c = record {
   said =
-      retold c.spell-answer.result (string_bytes c.spell-answer.new.out) (string_bytes c.args.out.now) _ _
+      retold c.spell_answer.result (string_bytes c.spell_answer.new.out) (string_bytes c.args.out.now) _ _
       (ap spelled_bytes
-      (told _ _ _ _ _ _ (call_meant c.args.asked) _ _ c.write-call-length.ensures.wrote c.write-call-length.ensures.many c.call-answered.ensures))
-      c.spell-answer.ensures;
-  left = left _ _ _ _ _ _ (call_meant c.args.asked) _ _ c.write-call-length.ensures.wrote c.write-call-length.ensures.many c.call-answered.ensures;
+      (told _ _ _ _ _ _ (call_meant c.args.asked) _ _ c.write_call-length.ensures.wrote c.write_call-length.ensures.many c.call-answered.ensures))
+      c.spell_answer.ensures;
+  left = left _ _ _ _ _ _ (call_meant c.args.asked) _ _ c.write_call-length.ensures.wrote c.write_call-length.ensures.many c.call-answered.ensures;
   ready = c.call-answered.ensures.ready;
 }

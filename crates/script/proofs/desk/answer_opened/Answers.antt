@@ -4,11 +4,11 @@ use Rattle.session.specs.declared.Sizes.{Sizes}
 use Rattle.script.proofs.Answered.{picked}
 use Rattle.script.proofs.desk.answer_opened.Goals as goal
 
-pub answer-in-requires : goal.answer-in-requires
-answer-in-requires c =
+pub answer_in-requires : goal.answer_in-requires
+answer_in-requires c =
     let p = picked _ _ _ c.in-Some.ensures in
     record {
       opens = p.0;
-      words = c.deref-mut.ensures.len ∙ c.in-ok-words.ensures.len ∙ ap (λ (s : Sizes). s.words) p.1;
-      bytes = c.deref-mut-2.ensures.len ∙ c.in-ok-bytes.ensures.len ∙ ap (λ (s : Sizes). s.bytes) p.1;
+      words = c.deref-mut.ensures.len ∙ c.in_ok-words.ensures.len ∙ ap (λ (s : Sizes). s.words) p.1;
+      bytes = c.deref-mut-2.ensures.len ∙ c.in_ok-bytes.ensures.len ∙ ap (λ (s : Sizes). s.bytes) p.1;
     }

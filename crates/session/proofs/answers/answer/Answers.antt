@@ -19,5 +19,5 @@ pub returns-in-HowLong : goal.returns-in-HowLong
 returns-in-HowLong c =
     let a =
     measured _ _ _ c.requires.0 c.args.call _ _ (ap call_meant c.in-HowLong.is)
-    (says _ _ _ _ _ _ (sym c.how_long.ensures) c.write-asked.ensures.wrote c.write-asked.ensures.many) in
+    (says _ _ _ _ _ _ (sym c.how_long.ensures) c.write_asked.ensures.wrote c.write_asked.ensures.many) in
     record { said = a.said; left = a.left; holds = c.requires.0 }

@@ -12,5 +12,5 @@ returns c =
     let es = events_at w c.args.span.begin c.args.span.count in
     let most : length (shown (get_or w 0 0) (get_or w 1 0) es c.args.bar c.args.count) ≤ page_bytes =
     page_enough (get_or w 0 0) (get_or w 1 0) es c.args.bar c.args.count y.1 y.3 c.requires.fine y.2 c.requires.room.0 in
-    let many : c.engrave-page.result ≡ length (shown (get_or w 0 0) (get_or w 1 0) es c.args.bar c.args.count) = search rules in
+    let many : c.engrave_page.result ≡ length (shown (get_or w 0 0) (get_or w 1 0) es c.args.bar c.args.count) = search rules in
     record { wrote = search rules; many = many; small = omega (arith, most, many) }

@@ -12,29 +12,29 @@ use Rattle.session.specs.Session.{Says}
 use Rattle.session.proofs.Saying.{says, show-says}
 use Rattle.session.proofs.answers.show.Goals as goal
 
-pub returns-in-default : goal.returns-in-default
+pub returns-in_default : goal.returns-in_default
 unfolding place
-returns-in-default c =
-    says _ _ _ _ (refused 2 0) _ (show_too_many c.args.words.now c.requires.0 c.args.voice c.args.bar c.args.count c.in-default.ensures).said
-    c.write-refused.ensures.wrote c.write-refused.ensures.many
+returns-in_default c =
+    says _ _ _ _ (refused 2 0) _ (show_too_many c.args.words.now c.requires.0 c.args.voice c.args.bar c.args.count c.in_default.ensures).said
+    c.write_refused.ensures.wrote c.write_refused.ensures.many
 
-pub returns-in-default-find-voice : goal.returns-in-default-find-voice
+pub returns-in_default-find_voice : goal.returns-in_default-find_voice
 unfolding place
-returns-in-default-find-voice c =
+returns-in_default-find_voice c =
     let f = c.in-Some.ensures in
     let few : c.args.count ≤ most_bars = omega (arith, f.0, f.1) in
     says _ _ _ _ (refused 4 c.args.voice) _
-    (show_no_voice c.args.words.now c.requires.0 c.args.voice c.args.bar c.args.count few c.in-default-find-voice.ensures).said
-    c.write-refused-in-default-find-voice.ensures.wrote c.write-refused-in-default-find-voice.ensures.many
+    (show_no_voice c.args.words.now c.requires.0 c.args.voice c.args.bar c.args.count few c.in_default-find_voice.ensures).said
+    c.write_refused-in_default-find_voice.ensures.wrote c.write_refused-in_default-find_voice.ensures.many
 
 pub print-long-requires : goal.print-long-requires
 print-long-requires c =
     let f = c.in-Some.ensures in
-    let s = c.in-Some-find-voice.ensures in
+    let s = c.in-Some-find_voice.ensures in
     let w = c.args.words.now in
     let b = c.args.bytes.now in
     let holds : Holds w = c.requires.0 in
-    let fine : all_fine (events_at w c.in-Some-find-voice.span.begin c.in-Some-find-voice.span.count) ≡ true =
+    let fine : all_fine (events_at w c.in-Some-find_voice.span.begin c.in-Some-find_voice.span.count) ≡ true =
     ap all_fine s.events ∙ fines_voice (score_of w) c.args.voice holds.kept.fines in
     let room : page_bytes ≤ length (take (length b - 5) (drop 5 b)) = rw (take_rest b 5, length-drop 5 b) (omega (arith, c.requires.1)) in
     record { 0 = (holds, s.within); fine = fine; room = (f.1, room) }
@@ -45,8 +45,8 @@ returns c =
     let w = c.args.words.now in
     let b = c.args.bytes.now in
     let five : 5 ≤ length b = omega (arith, c.requires.1) in
-    let shows : Says w b c.write-symbols-head.new.out (show c.args.voice c.args.bar c.in-Some.count) _ =
-    show-says w b _ c.args.voice c.args.bar c.in-Some.count _ _ c.print-long.result c.write-symbols-head.result _
-    c.requires.0 c.in-Some-find-voice.ensures f.1
-    five c.print-long.ensures.wrote c.print-long.ensures.many c.write-symbols-head.ensures.many c.write-symbols-head.ensures.wrote in
-    subst (λ (n : ℕ). Says w b c.write-symbols-head.new.out (show c.args.voice c.args.bar n) (c.write-symbols-head.result + c.print-long.result)) f.0 shows
+    let shows : Says w b c.write_symbols_head.new.out (show c.args.voice c.args.bar c.in-Some.count) _ =
+    show-says w b _ c.args.voice c.args.bar c.in-Some.count _ _ c.print-long.result c.write_symbols_head.result _
+    c.requires.0 c.in-Some-find_voice.ensures f.1
+    five c.print-long.ensures.wrote c.print-long.ensures.many c.write_symbols_head.ensures.many c.write_symbols_head.ensures.wrote in
+    subst (λ (n : ℕ). Says w b c.write_symbols_head.new.out (show c.args.voice c.args.bar n) (c.write_symbols_head.result + c.print-long.result)) f.0 shows

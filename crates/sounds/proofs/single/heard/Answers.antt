@@ -5,6 +5,6 @@ use Rattle.sounds.proofs.single.heard.Goals as goal
 
 pub returns : goal.returns
 returns c =
-    let s = c.in-ok-begin.ensures in
-    let f = from-words _ _ _ _ c.requires s c.regions-of-places.ensures.places c.regions-of-places.ensures.alterations c.regions-of-places.ensures.lengths refl refl refl refl refl in
+    let s = c.in_ok-begin.ensures in
+    let f = from-words _ _ _ _ c.requires s c.regions_of-places.ensures.places c.regions_of-places.ensures.alterations c.regions_of-places.ensures.lengths refl refl refl refl refl in
     (f.0, refl, s.there, f.1)

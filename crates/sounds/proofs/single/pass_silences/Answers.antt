@@ -3,8 +3,8 @@ use Rattle.std.proofs.Common.{◌<◌, length, sym, ◌∙◌, arith}
 use Rattle.sounds.proofs.Walks.{silences_more, silences_none, silences_all, silent-more, silent_none, rest_more}
 use Rattle.sounds.proofs.single.pass_silences.Goals as goal
 
-pub overflow-add-tick : goal.overflow-add-tick
-overflow-add-tick c =
+pub overflow_add-tick : goal.overflow_add-tick
+overflow_add-tick c =
     let m : c.loop-index.index < length c.args.lengths.now = omega arith in
     omega (arith, c.loop-index.invariant.2, rest_more c.loop-index.index c.args.lengths.now m)
 

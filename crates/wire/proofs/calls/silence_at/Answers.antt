@@ -9,4 +9,4 @@ pub returns : goal.returns
 returns c =
     let bs = c.args.bytes.now in
     made-of-four (λ q. (silence (of_two q.2 q.3), q.4)) c.args.place bs _ (omega (arith, ltb-false))
-    (ap (λ d. (silence d, take (length bs - 4) (drop 4 bs))) c.from-le-bytes.ensures)
+    (ap (λ d. (silence d, take (length bs - 4) (drop 4 bs))) c.from_le_bytes.ensures)

@@ -9,8 +9,8 @@ pub returns : goal.returns
 returns c =
     record {
       wrote =
-          put_next c.write-two-at.new.out c.args.out.now (c.args.number ∷ (four c.args.voice ++ four c.args.index))
-          (event_bytes (event_meant c.args.event)) c.write-event.new.out c.write-two-at.result c.write-event.result
-          c.write-two-at.ensures.wrote (sym c.write-two-at.ensures.many) c.write-event.ensures.wrote;
+          put_next c.write_two-at.new.out c.args.out.now (c.args.number ∷ (four c.args.voice ++ four c.args.index))
+          (event_bytes (event_meant c.args.event)) c.write_event.new.out c.write_two-at.result c.write_event.result
+          c.write_two-at.ensures.wrote (sym c.write_two-at.ensures.many) c.write_event.ensures.wrote;
       many = omega arith;
     }

@@ -4,40 +4,40 @@ use Rattle.sounds.proofs.Line.{yet_short, over, stepped}
 use Rattle.sounds.proofs.single.NotesIterator.next.Goals as goal
 use Rattle.std.proofs.iter.Next.{firm}
 
-pub pass-silences-index-requires : goal.pass-silences-index-requires
-pass-silences-index-requires c = (c.requires.lengths_too, omega (arith, yet_short c.args.self.now c.requires))
+pub pass_silences-index-requires : goal.pass_silences-index-requires
+pass_silences-index-requires c = (c.requires.lengths_too, omega (arith, yet_short c.args.self.now c.requires))
 
 pub returns-then-index-self : goal.returns-then-index-self
 returns-then-index-self c = record {
   steps = record {
     same_voice = refl;
-    gives = over c.args.self.now c.requires _ _ c.pass-silences-index.ensures.index c.pass-silences-index.ensures.tick c.if-index-self.true;
+    gives = over c.args.self.now c.requires _ _ c.pass_silences-index.ensures.index c.pass_silences-index.ensures.tick c.if-index-self.true;
   };
   goes = firm (tt) (λ h. search rules);
 }
 
-pub overflow-add-self-2 : goal.overflow-add-self-2
-overflow-add-self-2 c =
-    let s = stepped c.args.self.now c.requires _ _ c.pass-silences-index.ensures.index c.pass-silences-index.ensures.tick c.if-index-self.false in
+pub overflow_add-self-2 : goal.overflow_add-self-2
+overflow_add-self-2 c =
+    let s = stepped c.args.self.now c.requires _ _ c.pass_silences-index.ensures.index c.pass_silences-index.ensures.tick c.if-index-self.false in
     omega (arith, s.playable.short)
 
-pub overflow-cast-result : goal.overflow-cast-result
-overflow-cast-result c =
-    let s = stepped c.args.self.now c.requires _ _ c.pass-silences-index.ensures.index c.pass-silences-index.ensures.tick c.if-index-self.false in
+pub overflow_cast-result : goal.overflow_cast-result
+overflow_cast-result c =
+    let s = stepped c.args.self.now c.requires _ _ c.pass_silences-index.ensures.index c.pass_silences-index.ensures.tick c.if-index-self.false in
     omega (arith, s.length_fits)
 
-pub overflow-cast-result-2 : goal.overflow-cast-result-2
-overflow-cast-result-2 c =
-    let s = stepped c.args.self.now c.requires _ _ c.pass-silences-index.ensures.index c.pass-silences-index.ensures.tick c.if-index-self.false in
+pub overflow_cast-result-2 : goal.overflow_cast-result-2
+overflow_cast-result-2 c =
+    let s = stepped c.args.self.now c.requires _ _ c.pass_silences-index.ensures.index c.pass_silences-index.ensures.tick c.if-index-self.false in
     omega (arith, c.tone.ensures.small s.place s.alteration)
 
 pub returns : goal.returns
 returns c =
-    let s = stepped c.args.self.now c.requires _ _ c.pass-silences-index.ensures.index c.pass-silences-index.ensures.tick c.if-index-self.false in
+    let s = stepped c.args.self.now c.requires _ _ c.pass_silences-index.ensures.index c.pass_silences-index.ensures.tick c.if-index-self.false in
     record {
       steps = record {
         same_voice = refl;
         gives = (refl, s.heard_first c.tone.result c.tone.ensures.is);
       };
-      goes = firm ((s.playable, s.playable, omega (arith, c.if-index-self.false, c.pass-silences-index.ensures.index))) (λ h. search rules);
+      goes = firm ((s.playable, s.playable, omega (arith, c.if-index-self.false, c.pass_silences-index.ensures.index))) (λ h. search rules);
     }
