@@ -1,5 +1,6 @@
 //! Answers, from their bytes to a line of text.
 #![tactic(auto)]
+
 ghost use Rattle.std.specs.Prelude.{◌≡◌, List, [], ◌++◌, map, IfOk, string_bytes, OnOk};
 ghost use Rattle.std.specs.Option.{option_map};
 ghost use Rattle.score.specs.Meaning.{symbol_meant, sound_meant};

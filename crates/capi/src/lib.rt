@@ -1,5 +1,6 @@
 //! The engraver for C: functions over lent words and bytes, each of which returns one signed number.
 #![tactic(auto)]
+
 ghost use Rattle.std.specs.Prelude.{◌≡◌, ◌<◌, true, false, length, Some, None, nat_le};
 ghost use Rattle.score.specs.Music.{pick};
 ghost use Rattle.score.specs.Meaning.{refusal_number, refusal_place};

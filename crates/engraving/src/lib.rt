@@ -1,5 +1,6 @@
 //! A voice printed as symbols, from any bar on.
 #![tactic(auto)]
+
 ghost use Rattle.std.specs.Prelude.{◌≡◌, ◌<◌, ◌≤◌, List, ◌++◌, length, take, drop};
 ghost use Rattle.score.specs.Calls.{most_bars};
 ghost use Rattle.score.specs.Meaning.{symbol_meant};

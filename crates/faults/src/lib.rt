@@ -1,5 +1,6 @@
 //! Voices with their print, and the ways in which parts went wrong, each as a test: a voice is engraved and read again, and its print is looked at.
 #![tactic(auto)]
+
 #[cfg(test)]
 mod tests {
     use engraving::bars_of;

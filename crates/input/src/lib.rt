@@ -1,5 +1,6 @@
 //! What the programs read: the file that their first argument names, or standard input.
 #![tactic(auto)]
+
 use std::io::Read;
 use std::{env, fs, io};
 

@@ -1,5 +1,6 @@
 //! Keys: how a key alters the places, and what holds at each place where a bar begins.
 #![tactic(auto)]
+
 ghost use Rattle.std.specs.Prelude.{◌≡◌, ◌<◌, ◌≤◌, length};
 ghost use Rattle.score.specs.Music.{places, alterations, tone as tone_of};
 ghost use Rattle.score.specs.Print.{key};

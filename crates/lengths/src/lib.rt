@@ -1,5 +1,6 @@
 //! A length in values, and how much of it lies in a bar: what the engraving of an event stands on.
 #![tactic(auto)]
+
 ghost use Rattle.std.specs.Prelude.{◌≡◌, ◌+◌, ◌/◌, ◌≤◌, ◌++◌, length, drop};
 ghost use Rattle.lengths.specs.Drawn.{Largest, InBar};
 ghost use Rattle.score.specs.Print.{pieces as pieces_of};

@@ -1,6 +1,7 @@
 //! A score in lent words and bytes. What the words and bytes are stands in `specs/`; here are the theorems about them, each pinned by a function
 //! whose contract is the statement.
 #![tactic(auto)]
+
 ghost use Rattle.memory.specs.Owed.{ScoreBack, WordsFit, WordsCounted, AnswersFit, AnswersShort, EngraverRight, EngraverKeeps, EngraverEnough};
 
 /// A score is read back from the words that it is stored as.

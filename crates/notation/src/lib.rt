@@ -1,5 +1,6 @@
 //! Symbols, and notes as they are heard, read from the front of a text.
 #![tactic(auto)]
+
 ghost use Rattle.std.specs.Prelude.{◌≡◌, ◌<◌, ◌≤◌, IfOk};
 ghost use Rattle.words.specs.Words.{outcome};
 ghost use Rattle.notation.specs.Notation.{kind, sign_mark, sign_at, step, tie, value, head_on, head_text, rest_text, symbol_on, symbol_text, heard_on, sound_text, symbol_read, sound_read};

@@ -1,5 +1,6 @@
 //! A voice is engraved, and what was engraved is read: who reads it hears the voice.
 #![tactic(auto)]
+
 ghost use Rattle.std.specs.Prelude.{◌≡◌, length, MatchResult};
 ghost use Rattle.score.specs.Music.{fine_length, fine};
 ghost use Rattle.laws.specs.Rows.{event_of};

@@ -1,5 +1,6 @@
 //! The reader: symbols and a key in, notes out. It knows nothing of voices.
 #![tactic(auto)]
+
 ghost use Rattle.std.specs.Prelude.{◌≡◌, ◌+◌, ◌*◌, ◌^◌, ◌<◌, ◌≤◌, true, [], ◌++◌, map, length, take, drop};
 ghost use Rattle.std.specs.Option.{option_map};
 ghost use Rattle.score.specs.Meaning.{symbol_meant};

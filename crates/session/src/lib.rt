@@ -1,5 +1,6 @@
 //! The session: a score is opened in lent words and bytes, and calls are answered there.
 #![tactic(auto)]
+
 ghost use Rattle.std.specs.Prelude.{◌≡◌, ◌≤◌, ◌&&◌, length, take, Some, None, MatchResult, nat_le};
 ghost use Rattle.score.specs.Music.{pick};
 ghost use Rattle.memory.specs.Store.{words_asked, stored};

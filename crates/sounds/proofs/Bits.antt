@@ -33,26 +33,26 @@ pub bit_two : (n k : ℕ) → (bit n k ≡ 0) ⊎ (bit n k ≡ 1)
 bit_two n k = let h : n / 2 ^ k % 2 < 2 = omega arith in elim (cases_eq (n / 2 ^ k % 2) 0) [ inl e ↦ inl e | inr ne ↦ inr (omega arith) ]
 
 -- a bit is set
-bit_or : (a b k : ℕ) → bit (bit_or a b) k ≡ bit_or (bit a k) (bit b k)
-bit_or a b k = ap (λ n. n % 2) (or_shr a b k) ∙ or_mod (a / 2 ^ k) (b / 2 ^ k) 1
+bit_of_or : (a b k : ℕ) → bit (bit_or a b) k ≡ bit_or (bit a k) (bit b k)
+bit_of_or a b k = ap (λ n. n % 2) (or_shr a b k) ∙ or_mod (a / 2 ^ k) (b / 2 ^ k) 1
 
 pub put_same : (w k : ℕ) → bit (bit_or w (2 ^ k)) k ≡ 1
 put_same w k =
-    bit_or w (2 ^ k) k ∙ ap (bit_or (bit w k)) (bit_same k)
+    bit_of_or w (2 ^ k) k ∙ ap (bit_or (bit w k)) (bit_same k)
     ∙ elim (bit_two w k) [ inl e ↦ ap (λ n. bit_or n 1) e | inr e ↦ ap (λ n. bit_or n 1) e ]
 
 pub put_other : (w k j : ℕ) → (j ≡ k → ⊥) → bit (bit_or w (2 ^ k)) j ≡ bit w j
-put_other w k j ne = bit_or w (2 ^ k) j ∙ ap (bit_or (bit w j)) (bit_other k j ne) ∙ or_zero_r (bit w j)
+put_other w k j ne = bit_of_or w (2 ^ k) j ∙ ap (bit_or (bit w j)) (bit_other k j ne) ∙ or_zero_r (bit w j)
 
 -- a bit that is set is cleared
-bit_xor : (a b k : ℕ) → bit (bit_xor a b) k ≡ bit_xor (bit a k) (bit b k)
-bit_xor a b k = ap (λ n. n % 2) (xor_shr a b k) ∙ xor_mod (a / 2 ^ k) (b / 2 ^ k) 1
+bit_of_xor : (a b k : ℕ) → bit (bit_xor a b) k ≡ bit_xor (bit a k) (bit b k)
+bit_of_xor a b k = ap (λ n. n % 2) (xor_shr a b k) ∙ xor_mod (a / 2 ^ k) (b / 2 ^ k) 1
 
 pub flip_same : (w k : ℕ) → bit w k ≡ 1 → bit (bit_xor w (2 ^ k)) k ≡ 0
-flip_same w k e = bit_xor w (2 ^ k) k ∙ ap (bit_xor (bit w k)) (bit_same k) ∙ ap (λ n. bit_xor n 1) e
+flip_same w k e = bit_of_xor w (2 ^ k) k ∙ ap (bit_xor (bit w k)) (bit_same k) ∙ ap (λ n. bit_xor n 1) e
 
 pub flip_other : (w k j : ℕ) → (j ≡ k → ⊥) → bit (bit_xor w (2 ^ k)) j ≡ bit w j
-flip_other w k j ne = bit_xor w (2 ^ k) j ∙ ap (bit_xor (bit w j)) (bit_other k j ne) ∙ xor_zero_r (bit w j)
+flip_other w k j ne = bit_of_xor w (2 ^ k) j ∙ ap (bit_xor (bit w j)) (bit_other k j ne) ∙ xor_zero_r (bit w j)
 
 -- the lowest bit that is set
 pub record Lowest (n t : ℕ) : Type 0 where

@@ -2,6 +2,7 @@
 //!
 //! The contract of `heard_in` cites `together`, the definition of which crate `laws` proves that it is in order and that nothing of any voice is lost.
 #![tactic(auto)]
+
 ghost use Rattle.std.specs.Prelude.{◌≡◌, ◌+◌, ◌*◌, ◌^◌, ◌<◌, ◌≤◌, ◌++◌, length, take, drop, replicate, sum, slice_index};
 ghost use Rattle.score.specs.Music.{places, alterations, length_end};
 ghost use Rattle.score.specs.Calls.{all_events, widest_span, together};
@@ -46,8 +47,8 @@ struct Rows<'a> {
 
 /// Writes the note of an index in the rows as it is heard, over the first eight bytes.
 fn write_note(rows: Rows, index: usize, voice: u8, start: u32, out: &mut [u8])
-    requires index_in_bounds { (index < length rows.places.now) × ((index < length rows.alterations.now) × ((index < length rows.lengths.now) × (8 ≤ length out.old))) }
-    requires index_bound { (slice_index rows.places.now index < places) × ((slice_index rows.alterations.now index < alterations) × (slice_index rows.lengths.now index < length_end)) }
+    requires there { (index < length rows.places.now) × ((index < length rows.alterations.now) × ((index < length rows.lengths.now) × (8 ≤ length out.old))) }
+    requires fine { (slice_index rows.places.now index < places) × ((slice_index rows.alterations.now index < alterations) × (slice_index rows.lengths.now index < length_end)) }
     ensures { out.new ≡ sound_bytes (voice, sound_at rows.entry index start) ++ drop 8 out.old }
 {
     let sound = Sound {
@@ -79,8 +80,8 @@ fn reach(lengths: &[u32], from: usize) -> (usize, usize)
 
 /// Sets a voice's bit in the slots in which its notes begin, from a tick on up to the end of the slots.
 fn mark(places: &[u32], lengths: &[u32], voice: u32, start: usize, first: usize, slots: &mut [u64])
-    requires places_len { (length places.now ≡ length lengths.now) × ((voice < 64) × (start + sum lengths.now < 2 ^ 32)) }
-    requires first_bound { 0 < length lengths.now → grain * first ≤ start }
+    requires rows { (length places.now ≡ length lengths.now) × ((voice < 64) × (start + sum lengths.now < 2 ^ 32)) }
+    requires begun { 0 < length lengths.now → grain * first ≤ start }
     ensures { slots.new ≡ marks voice first (note_ticks (grain * (first + length slots.old)) start places.now lengths.now) slots.old }
 {
     let mut tick = start;

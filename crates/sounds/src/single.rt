@@ -1,5 +1,6 @@
 //! What is heard of one voice, note by note.
 ghost use Rattle.std.specs.Prelude.{◌≡◌, ◌+◌, ◌-◌, ◌^◌, ◌<◌, ◌≤◌, length, take, drop, sum, MatchOption};
+ghost use Rattle.std.specs.Iterator.{at_most};
 ghost use Rattle.score.specs.Music.{heard as heard_from};
 ghost use Rattle.score.specs.Calls.{voice as voice_in};
 ghost use Rattle.memory.specs.Store.{voices_in, score_of};
@@ -46,9 +47,7 @@ impl Iterator for Notes<'_> {
 
     ghost next_gives = { Steps };
 
-    ghost ends = { Playable };
-
-    ghost remaining = { λ s. length s.places.now - s.index };
+    ghost remaining = { λ s. at_most (length s.places.now - s.index) };
 
     fn next(&mut self) -> Option<Sound> {
         let (index, start) = pass_silences(self.places, self.lengths, self.index, self.tick);

@@ -1,5 +1,6 @@
 //! Tests of what is heard, in a crate of their own, since a crate with tests is proved twice.
 #![tactic(auto)]
+
 ghost use Rattle.std.specs.Prelude.{◌≡◌};
 ghost use Rattle.memory.specs.Store.{limit_in};
 ghost use Rattle.memory.specs.Words.{Holds};

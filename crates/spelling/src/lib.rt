@@ -1,5 +1,6 @@
 //! How events, symbols, sounds and answers are spelled.
 #![tactic(auto)]
+
 ghost use Rattle.std.specs.Prelude.{◌≡◌, ℕ, List, [], ◌++◌, map, string_bytes, OnOk};
 ghost use Rattle.score.specs.Calls.{refused};
 ghost use Rattle.score.specs.Meaning.{event_meant, symbol_meant, sound_meant};
@@ -73,9 +74,9 @@ impl Spell for Event {
                 let letter = letter_of(place % 7);
                 let name = name_of(alteration);
                 let octave = place / 7;
-                write!(out, "{letter}{name}{octave} {length}")
+                Ok(write!(out, "{letter}{name}{octave} {length}")?)
             }
-            Event::Silence { length } => write!(out, "silence {length}"),
+            Event::Silence { length } => Ok(write!(out, "silence {length}")?),
         }
     }
 }
@@ -86,7 +87,7 @@ impl Spell for Symbol {
 
     fn spell(&self, out: &mut String) -> fmt::Result {
         match *self {
-            Symbol::BarLine => write!(out, "bar"),
+            Symbol::BarLine => Ok(write!(out, "bar")?),
             Symbol::Head {
                 place,
                 sign,
@@ -97,9 +98,9 @@ impl Spell for Symbol {
                 let letter = letter_of(place % 7);
                 let octave = place / 7;
                 let tie = if tied { "~" } else { "" };
-                write!(out, "{mark}{letter}{octave}:{value}{tie}")
+                Ok(write!(out, "{mark}{letter}{octave}:{value}{tie}")?)
             }
-            Symbol::Rest { value } => write!(out, "r{value}"),
+            Symbol::Rest { value } => Ok(write!(out, "r{value}")?),
         }
     }
 }
@@ -113,13 +114,13 @@ impl Spell for Sound {
         let start = self.start;
         let length = self.length;
         let tone = self.tone;
-        write!(out, "{voice} {start} {length} {tone}")
+        Ok(write!(out, "{voice} {start} {length} {tone}")?)
     }
 }
 
 /// Writes a row with a text between each two.
 pub fn spell_row<T: Spell>(row: &[T], between: &str, out: &mut String) -> fmt::Result
-    ensures { OnOk result (string_bytes out.new ≡ string_bytes out.old ++ spelled_row spelled [] between.now row.now) }
+    ensures { OnOk result (string_bytes out.new ≡ string_bytes out.old ++ spelled_row T.spelled [] between.now row.now) }
 {
     let mut lead = "";
     for item in row {
@@ -148,5 +149,5 @@ pub fn spell_sounds(sounds: &[Sound], out: &mut String) -> fmt::Result
 pub fn spell_refusal(number: u8, place: usize, out: &mut String) -> fmt::Result
     ensures { OnOk result (string_bytes out.new ≡ string_bytes out.old ++ spelled_answer (refused number place)) }
 {
-    write!(out, "refused {number} at {place}")
+    Ok(write!(out, "refused {number} at {place}")?)
 }

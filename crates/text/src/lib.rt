@@ -1,5 +1,6 @@
 //! What a line of text says: an event, a call, a setting.
 #![tactic(auto)]
+
 ghost use Rattle.std.specs.Prelude.{◌≡◌, ◌<◌, ◌≤◌};
 ghost use Rattle.text.specs.Lines.{alteration, alteration_at, alteration_word, beginning, event, event_read, note_on, verb, field, edit_on, edit_read, put_on, change_on, cut_on, show_on, heard_on, long_on, call_on, call_words, call_read, named, whole, call_line, event_line, setting_line, said};
 ghost use Rattle.score.specs.Meaning.{call_meant, event_meant};

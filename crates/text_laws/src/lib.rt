@@ -1,5 +1,6 @@
 //! Text loses nothing: what is spelled is read back as it was. Each theorem is pinned by a function whose contract is the statement.
 #![tactic(auto)]
+
 ghost use Rattle.text_laws.specs.Back.{NumbersBack, EventsBack, SymbolsBack, SoundsBack};
 
 /// A number is read back from its digits.

@@ -1,5 +1,6 @@
 //! Voices in lent words: where the events of a voice lie, how long it is, and the calls that put, cut and change events.
 #![tactic(auto)]
+
 ghost use Rattle.std.specs.Prelude.{◌≡◌, ◌+◌, ◌-◌, ◌^◌, ◌<◌, ◌≤◌, true, false, length, take, sum, MatchOption, slice_index, slice_set};
 ghost use Rattle.std.specs.Option.{option_map};
 ghost use Rattle.score.specs.Meaning.{event_meant};

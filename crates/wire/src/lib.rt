@@ -1,5 +1,6 @@
 //! Calls and answers as bytes: which call a row of bytes is or where it ceases to be one, and how answers are written and read back.
 #![tactic(auto)]
+
 ghost use Rattle.std.specs.Prelude.{◌≡◌, ◌≤◌, ◌∷◌, ◌++◌, length, drop};
 ghost use Rattle.wire.specs.Bytes.{four};
 ghost use Rattle.wire.specs.Faithful.{CallsBack, OneRow, PlaceRight, SymbolsBack, SoundsBack, AnswersBack};

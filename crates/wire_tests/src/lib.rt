@@ -1,5 +1,6 @@
 //! Tests of calls and answers as bytes, in a crate of their own, since a crate with tests is proved twice.
 #![tactic(auto)]
+
 ghost use Rattle.std.specs.Prelude.{◌<◌};
 
 #[cfg(test)]

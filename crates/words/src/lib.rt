@@ -1,5 +1,6 @@
 //! The words and numbers that a line of text is made of, read from its front on.
 #![tactic(auto)]
+
 ghost use Rattle.std.specs.Prelude.{◌≡◌, ◌+◌, ◌<◌, ◌≤◌, true, false, ◌∷◌, map, length, IfOk, Some, None};
 ghost use Rattle.words.specs.Words.{number, strip, spaced_number, one_of, outcome, begins_with_digit};
 

@@ -9,11 +9,11 @@ loop-i-init c = take-first sound_of sound_meant 8 c.args.count _ c.args.bytes.no
 
 pub loop-i-preserved : goal.loop-i-preserved
 loop-i-preserved c =
-    take_more sound_of sound_meant 8 c.args.count c.loop-i.-i _ _ c.in-Some.sound c.loop-i.rest.now _
+    take_more sound_of sound_meant 8 c.args.count c.loop-i._i _ _ c.in-Some.sound c.loop-i.rest.now _
     c.loop-i-test.true c.in-Some.ensures c.in_ok-push.ensures.items c.loop-i.invariant
 
 pub returns-in_default : goal.returns-in_default
-returns-in_default c = take_none sound_of 8 c.args.count c.loop-i.-i _ c.loop-i.rest.now _ c.loop-i-test.true c.in_default.ensures c.loop-i.invariant
+returns-in_default c = take_none sound_of 8 c.args.count c.loop-i._i _ c.loop-i.rest.now _ c.loop-i-test.true c.in_default.ensures c.loop-i.invariant
 
 pub returns : goal.returns
-returns c = take_all sound_of 8 c.args.count c.loop-i.-i _ c.loop-i.rest.now _ c.loop-i-test.false c.loop-i.invariant
+returns c = take_all sound_of 8 c.args.count c.loop-i._i _ c.loop-i.rest.now _ c.loop-i-test.false c.loop-i.invariant

@@ -6,4 +6,4 @@ use Rattle.answers.proofs.Taken.{ahead}
 use Rattle.answers.proofs.sounds_in.Given as goal
 
 abbrev pub invariant-loop-i : goal.invariant-loop-i
-invariant-loop-i l = ahead (map sound_meant (vec_items l.row)) (row_of sound_of 8 (l.count - l.-i) l.rest) ≡ row_of sound_of 8 l.count l.bytes
+invariant-loop-i l = ahead (map sound_meant (vec_items l.row)) (row_of sound_of 8 (l.count - l._i) l.rest) ≡ row_of sound_of 8 l.count l.bytes

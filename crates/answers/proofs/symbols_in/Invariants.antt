@@ -6,4 +6,4 @@ use Rattle.answers.proofs.Taken.{ahead}
 use Rattle.answers.proofs.symbols_in.Given as goal
 
 abbrev pub invariant-loop-i : goal.invariant-loop-i
-invariant-loop-i l = ahead (map symbol_meant (vec_items l.row)) (row_of symbol_of 5 (l.count - l.-i) l.rest) ≡ row_of symbol_of 5 l.count l.bytes
+invariant-loop-i l = ahead (map symbol_meant (vec_items l.row)) (row_of symbol_of 5 (l.count - l._i) l.rest) ≡ row_of symbol_of 5 l.count l.bytes

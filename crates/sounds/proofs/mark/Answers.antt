@@ -19,7 +19,7 @@ loop-index-preserved c =
       λ l. omega (arith, c.loop-index.invariant.1 l),
       elim c.if-places-index-ne-SILENCE.branch [
         | then-places-index-ne-SILENCE w ↦
-            let mask : (1 * 2 ^ c.args.voice) % 2 ^ 64 ≡ 2 ^ c.args.voice = one_shl c.args.voice 64 c.requires.0.1.0 in
+            let mask : (1 * 2 ^ c.args.voice) % 2 ^ 64 ≡ 2 ^ c.args.voice = one_shl c.args.voice 64 c.requires.rows.1.0 in
             let step = marks_note end c.loop-index.tick c.loop-index.index c.args.places.now c.args.lengths.now lp c.loop-index-test.true before
             c.args.voice c.args.first c.loop-index.slots w.if-places-index-ne-SILENCE.true in
             simp (w.slots-is, mask) (sym step ∙ c.loop-index.invariant.2)

@@ -8,10 +8,11 @@ use Rattle.sounds.proofs.mark_voice.Goals as goal
 pub mark-requires : goal.mark-requires
 mark-requires c =
     let all = sum_by-take-drop (λ x. x) c.args.lengths.now c.reach-passed.result.0 in
-    let t = c.reach-passed.ensures.tick in (
-      (simp (take_rest, length-drop) (omega (arith, c.requires.0)), (c.requires.1.0, simp take_rest (omega (arith, all, t)))),
-      λ l. c.reach-passed.ensures.reached (let d : length (take (length c.args.lengths.now - c.reach-passed.result.0) (drop c.reach-passed.result.0 c.args.lengths.now)) ≡ length c.args.lengths.now - c.reach-passed.result.0 = simp (take_rest, length-drop) in omega (arith, d, l)),
-    )
+    let t = c.reach-passed.ensures.tick in
+    record {
+      rows = (simp (take_rest, length-drop) (omega (arith, c.requires.0)), (c.requires.1.0, simp take_rest (omega (arith, all, t))));
+      begun = λ l. c.reach-passed.ensures.reached (let d : length (take (length c.args.lengths.now - c.reach-passed.result.0) (drop c.reach-passed.result.0 c.args.lengths.now)) ≡ length c.args.lengths.now - c.reach-passed.result.0 = simp (take_rest, length-drop) in omega (arith, d, l));
+    }
 
 pub returns : goal.returns
 returns c =

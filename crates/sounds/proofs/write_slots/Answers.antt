@@ -37,10 +37,11 @@ bounds-cursors-voice-in-loop-voices c =
 pub write_note-requires : goal.write_note-requires
 write_note-requires c =
     let u = writing-next c.requires.laid (omega (arith, c.requires.small.0)) c.loop-voices.invariant.0 c.loop-voices-test.true c.loop-voices.invariant.1 c.next_note-at.result c.next_note-at.ensures in
-    let room = writing-room (length c.args.out.now) c.loop-index.invariant c.loop-voices.invariant.0 u c.requires.room in (
-      (u.in_rows, (omega (arith, u.in_rows, c.requires.laid.alterations_too), (omega (arith, u.in_rows, c.requires.laid.lengths_too), simp (take_rest, length-drop) (omega (arith, room))))),
-      (u.place, (u.alteration, u.long)),
-    )
+    let room = writing-room (length c.args.out.now) c.loop-index.invariant c.loop-voices.invariant.0 u c.requires.room in
+    record {
+      there = (u.in_rows, (omega (arith, u.in_rows, c.requires.laid.alterations_too), (omega (arith, u.in_rows, c.requires.laid.lengths_too), simp (take_rest, length-drop) (omega (arith, room)))));
+      fine = (u.place, (u.alteration, u.long));
+    }
 
 pub loop-voices-smaller : goal.loop-voices-smaller
 loop-voices-smaller c =

@@ -15,7 +15,7 @@ pub returns-in_err-span : goal.returns-in_err-span
 returns-in_err-span c =
     let w : List ℕ = c.args.words.now in
     let z = no_voice w c.requires c.args.voice c.in_err-span.ensures in
-    ap (option_map event_meant) c.from-residual.ensures ∙ sym (pick_false _ _ _ (le-ltb c.args.index (length (voice (score_of w) c.args.voice)) (omega arith)))
+    ap (option_map event_meant) c.from_residual.ensures ∙ sym (pick_false _ _ _ (le-ltb c.args.index (length (voice (score_of w) c.args.voice)) (omega arith)))
 
 pub event_from-requires : goal.event_from-requires
 event_from-requires c =

@@ -37,7 +37,7 @@ print-long-requires c =
     let fine : all_fine (events_at w c.in-Some-find_voice.span.begin c.in-Some-find_voice.span.count) ≡ true =
     ap all_fine s.events ∙ fines_voice (score_of w) c.args.voice holds.kept.fines in
     let room : page_bytes ≤ length (take (length b - 5) (drop 5 b)) = rw (take_rest b 5, length-drop 5 b) (omega (arith, c.requires.1)) in
-    record { 0 = (holds, s.within); fine = fine; room = (f.1, room) }
+    record { holds = (holds, s.within); fine = fine; room = (f.1, room) }
 
 pub returns : goal.returns
 returns c =

@@ -2,7 +2,6 @@
 use Rattle.std.proofs.Common.{refl, arith, rules}
 use Rattle.sounds.proofs.Line.{yet_short, over, stepped}
 use Rattle.sounds.proofs.single.NotesIterator.next.Goals as goal
-use Rattle.std.proofs.iter.Next.{firm}
 
 pub pass_silences-index-requires : goal.pass_silences-index-requires
 pass_silences-index-requires c = (c.requires.lengths_too, omega (arith, yet_short c.args.self.now c.requires))
@@ -13,7 +12,7 @@ returns-then-index-self c = record {
     same_voice = refl;
     gives = over c.args.self.now c.requires _ _ c.pass_silences-index.ensures.index c.pass_silences-index.ensures.tick c.if-index-self.true;
   };
-  goes = firm (tt) (λ h. search rules);
+  goes = record { on = λ _. tt; keeps = tt; rests = λ _. tt };
 }
 
 pub overflow_add-self-2 : goal.overflow_add-self-2
@@ -39,5 +38,9 @@ returns c =
         same_voice = refl;
         gives = (refl, s.heard_first c.tone.result c.tone.ensures.is);
       };
-      goes = firm ((s.playable, s.playable, omega (arith, c.if-index-self.false, c.pass_silences-index.ensures.index))) (λ h. search rules);
+      goes = record {
+        on = λ _. (s.playable, tt, omega (arith, c.if-index-self.false, c.pass_silences-index.ensures.index));
+        keeps = s.playable;
+        rests = λ _. tt;
+      };
     }
