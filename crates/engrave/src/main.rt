@@ -1,5 +1,6 @@
 //! `engrave [FILE]` answers a file of calls, or standard input: four lines open a score, each line that follows is a call, and each answer is a line.
 #![tactic(auto)]
+
 use input::read_input;
 use script::answer_script;
 

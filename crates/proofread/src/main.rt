@@ -1,6 +1,7 @@
 //! `proofread [FILE]` prints a voice, reads what was printed, and prints what it heard. It reads a file, or standard input: a key, a bar's length, and
 //! then one event a line. It prints three lines: what is heard of the voice, what is printed, and what the reader heard.
 #![tactic(auto)]
+
 use answers::symbols_in;
 use engraving::voice::{Layout, Rows};
 use input::read_input;

@@ -1,5 +1,6 @@
 //! A script: a text of lines, of which the first four open a score and each that follows is a call. Here the whole text that answers it is made.
 #![tactic(auto)]
+
 ghost use Rattle.std.specs.Prelude.{◌≡◌, ◌≤◌, ◌++◌, IfOk, string_bytes};
 ghost use Rattle.script.specs.Script.{script_answers};
 ghost use Rattle.script.specs.Promised.{CallsAnswered};

@@ -9,6 +9,6 @@ answer_in-requires c =
     let p = picked _ _ _ c.in-Some.ensures in
     record {
       opens = p.0;
-      words = c.deref-mut.ensures.len ∙ c.in_ok-words.ensures.len ∙ ap (λ (s : Sizes). s.words) p.1;
-      bytes = c.deref-mut-2.ensures.len ∙ c.in_ok-bytes.ensures.len ∙ ap (λ (s : Sizes). s.bytes) p.1;
+      words = c.deref_mut.ensures.len ∙ c.in_ok-words.ensures.len ∙ ap (λ (s : Sizes). s.words) p.1;
+      bytes = c.deref_mut-2.ensures.len ∙ c.in_ok-bytes.ensures.len ∙ ap (λ (s : Sizes). s.bytes) p.1;
     }
