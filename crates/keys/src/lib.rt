@@ -4,10 +4,13 @@
 ghost use Rattle.std.specs.Prelude.{◌≡◌, ◌<◌, ◌≤◌, length};
 ghost use Rattle.score.specs.Music.{places, alterations, tone as tone_of};
 ghost use Rattle.score.specs.Print.{key};
-ghost use Rattle.keys.specs.Held.{key_row};
+ghost use Rattle.keys.specs.Held.{key_row, sign_needed, then_holding};
 
 /// How many places there are. A slice that says what holds at each of them has so many words.
 pub const PLACES: usize = 70;
+
+/// The place of a silence, which no note has.
+const SILENT: u32 = 70;
 
 /// The steps of an octave, of which each key alters a few in all octaves.
 const STEPS: u32 = 7;
@@ -50,5 +53,24 @@ pub fn begin_bar(signature: u32, holds: &mut [u32])
 {
     for place in 0..PLACES {
         holds[place] = altered_by_key(signature, place as u32);
+    }
+}
+
+/// The sign that an event needs where it begins, as `holds` says what holds at each place: none if it is a silence or if its alteration holds, else
+/// that alteration's. From then on its alteration holds at its place.
+pub fn sign_of(holds: &mut [u32], place: u32, alteration: u32) -> u32
+    requires { (length holds.old ≡ places) × ((place ≤ places) × ((place < places → alteration < alterations))) }
+    ensures sign { result ≡ sign_needed holds.old place alteration }
+    ensures holds { holds.new ≡ then_holding holds.old place alteration }
+{
+    if place == SILENT {
+        return 0;
+    }
+    let held = holds[place as usize];
+    holds[place as usize] = alteration;
+    if held == alteration {
+        0
+    } else {
+        alteration + 1
     }
 }
