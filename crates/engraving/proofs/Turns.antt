@@ -3,7 +3,7 @@ use Rattle.std.proofs.Common.{◌≡◌, ℕ, zero, suc, ◌+◌, ◌-◌, ◌*�
 use Rattle.std.proofs.lemmas.List.{set-get_or}
 use Rattle.std.proofs.lemmas.Bool.{eq-eqb, ne_eqb, le-leb, lt-leb}
 use Rattle.score.specs.Music.{pick, places, Event, note, silence, all_fine}
-use Rattle.score.specs.Print.{Symbol, bar, key, now, all_values, largest, lesser, print, so_many}
+use Rattle.score.specs.Print.{Symbol, bar, key, all_values, largest, lesser, print, so_many}
 use Rattle.score.proofs.Picks.{pick_true, pick_false}
 use Rattle.laws.specs.Owed.{one, owed, rest_from}
 use Rattle.laws.specs.Rows.{event_of, voice_of}

@@ -1,5 +1,5 @@
 -- A call is written as bytes, and what a session answers to these bytes is what is answered to the call. Assumes nothing.
-use Rattle.std.proofs.Common.{◌≡◌, ℕ, ◌-◌, ◌≤◌, List, [], ◌++◌, length, take, Some, Ok, Option, Result, sym, refl, ap, ◌∙◌, subst, arith}
+use Rattle.std.proofs.Common.{◌≡◌, ℕ, ◌-◌, ◌≤◌, List, [], ◌++◌, length, take, Some, Ok, Result, sym, ap, ◌∙◌, arith}
 use Rattle.std.proofs.lemmas.List.{append-nil, length-take, take_at}
 use Rattle.score.specs.Calls.{Call, Answer}
 use Rattle.score.specs.Promise.{Memory}

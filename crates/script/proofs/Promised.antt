@@ -1,12 +1,11 @@
 -- The answers to lines that are all calls are the answers to these calls. Assumes nothing.
-use Rattle.std.proofs.Common.{◌≡◌, ℕ, List, [], ◌∷◌, map, Ok, Err, Result, refl, ap, ◌∙◌, arith}
+use Rattle.std.proofs.Common.{◌≡◌, ℕ, List, [], ◌∷◌, map, Ok, Result, refl, ap, ◌∙◌, arith}
 use Rattle.score.specs.Calls.{Call, Answer, Limits, Layout, Score, empty_voices, answers, answer, after}
 use Rattle.score.proofs.Picks.{pick_true}
 use Rattle.session.specs.declared.Opening.{Opening}
 use Rattle.session.specs.Session.{limits_for, layout_for}
 use Rattle.text.specs.Lines.{call_line}
-use Rattle.script.specs.Lines.{lines}
-use Rattle.script.specs.Script.{opening_in, opened_answers, answers_by, answer_lines, line_answer, after_line, line_answers}
+use Rattle.script.specs.Script.{answers_by, answer_lines, line_answer, after_line, line_answers}
 use Rattle.script.specs.Promised.{CallsAnswered}
 
 all_calls : (l : Limits) (y : Layout) (s : Score) (ls : List (List ℕ)) (cs : List Call) → map call_line ls ≡ map Ok cs → line_answers l y s ls ≡ answers l y s cs

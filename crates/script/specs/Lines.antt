@@ -1,5 +1,5 @@
 -- The lines of a text, and those of them that say something. Assumes nothing: these are definitions.
-use Rattle.std.specs.Prelude.{ℕ, Bool, true, false, not, List, [], ◌∷◌, ◌==◌}
+use Rattle.std.specs.Prelude.{ℕ, Bool, false, not, List, [], ◌∷◌, ◌==◌}
 use Rattle.score.specs.Music.{pick}
 
 -- the byte that ends a line, and the one that a comment begins with

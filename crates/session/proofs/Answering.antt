@@ -1,9 +1,8 @@
 -- A call on the part of lent memory that a score takes is a call on all of it. Assumes nothing.
-use Rattle.std.proofs.Common.{◌≡◌, ℕ, ◌+◌, ◌-◌, ◌<◌, ◌≤◌, List, ◌++◌, length, take, drop, Ok, Err, Result, sym, refl, ap, ◌∙◌, subst, append_assoc, arith}
+use Rattle.std.proofs.Common.{◌≡◌, ℕ, ◌-◌, ◌≤◌, List, ◌++◌, length, take, drop, Ok, Err, Result, sym, ap, ◌∙◌, subst, append_assoc, arith}
 use borrow.Rule.Slice.PartMut.{post_of, Post-is}
 use Rattle.std.proofs.lemmas.List.{take_at, take-append-drop, length-take-le, length-append}
 use Rattle.score.specs.Calls.{Call, Answer, after}
-use Rattle.score.specs.Promise.{Memory}
 use Rattle.wire.specs.Bytes.{answer_bytes, written}
 use Rattle.wire.specs.ReadingCalls.{read_call}
 use Rattle.memory.specs.Store.{limits_of, layout_of, score_of}

@@ -1,5 +1,5 @@
 -- A question leaves the words as they were. Assumes nothing.
-use Rattle.std.proofs.Common.{◌≡◌, ℕ, Bool, true, false, eqb, List, sym, refl, ap, ◌∙◌, subst}
+use Rattle.std.proofs.Common.{◌≡◌, ℕ, eqb, List, sym, refl, ap, ◌∙◌, subst}
 use Rattle.score.specs.Music.{pick}
 use Rattle.score.specs.Calls.{Call, Score, show, heard_in, how_long, changed, turned}
 use Rattle.score.specs.Meaning.{call_meant}

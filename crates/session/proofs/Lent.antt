@@ -1,7 +1,6 @@
 -- Lent memory that is longer than what a score takes. Assumes nothing.
-use Rattle.std.proofs.Common.{◌≡◌, ℕ, ◌+◌, ◌*◌, ◌<◌, ◌≤◌, List, ◌++◌, length, get_or, take, drop, sym, refl, ap, ◌∙◌, subst, arith}
+use Rattle.std.proofs.Common.{◌≡◌, ℕ, ◌<◌, ◌≤◌, List, ◌++◌, length, take, drop, sym, ap, ◌∙◌, subst, arith}
 use Rattle.std.proofs.lemmas.List.{get_or_append_left, take_at, drop_at, length-append}
-use Rattle.score.specs.Promise.{Memory}
 use Rattle.memory.specs.Store.{words_asked, bytes_asked, voices_in, limit_in}
 use Rattle.memory.specs.Words.{Holds}
 use Rattle.session.specs.Session.{words_taken, bytes_taken, memory_in, Ready, Untouched}

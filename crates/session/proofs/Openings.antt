@@ -1,5 +1,5 @@
 -- What opening leaves in lent memory. Assumes nothing.
-use Rattle.std.proofs.Common.{◌≡◌, ℕ, ◌-◌, ◌%◌, ◌<◌, ◌≤◌, Bool, true, false, ◌&&◌, eqb, ltb, leb, List, ◌++◌, length, drop, replicate, Some, None, sym, refl, ap, ◌∙◌, subst, arith}
+use Rattle.std.proofs.Common.{◌≡◌, ℕ, ◌-◌, ◌≤◌, Bool, true, false, ◌&&◌, leb, List, ◌++◌, length, drop, replicate, Some, None, sym, refl, ap, ◌∙◌, subst, arith}
 use borrow.Rule.Slice.PartMut.{post_of, Post-is}
 use lib.ListN.{length-replicate}
 use Rattle.std.proofs.lemmas.List.{length-append}
@@ -13,7 +13,7 @@ use Rattle.memory.specs.Words.{Holds}
 use Rattle.memory.proofs.Run.{kept_empty}
 use Rattle.memory.proofs.Stored.{length_stored}
 use Rattle.memory.proofs.Held.{holds_stored}
-use Rattle.session.specs.Session.{engraver, limits_for, layout_for, opens, sizes_of, open_answer, bytes_taken, Opened}
+use Rattle.session.specs.Session.{limits_for, layout_for, opens, sizes_of, open_answer, bytes_taken, Opened}
 use Rattle.session.specs.declared.Opening.{Opening}
 use Rattle.session.specs.declared.Sizes.{Sizes}
 use Rattle.session.proofs.Lent.{memory_front, untouched, ready}

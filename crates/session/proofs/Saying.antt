@@ -1,13 +1,13 @@
 -- What is written for a call is its answer. Assumes nothing.
-use Rattle.std.proofs.Common.{◌≡◌, ℕ, ◌+◌, ◌-◌, ◌*◌, ◌/◌, ◌<◌, ◌≤◌, List, ◌++◌, length, get_or, take, drop, sym, refl, ap, ◌∙◌, arith, length-append}
+use Rattle.std.proofs.Common.{◌≡◌, ℕ, ◌+◌, ◌-◌, ◌*◌, ◌/◌, ◌≤◌, List, ◌++◌, length, get_or, take, drop, sym, ap, ◌∙◌, arith, length-append}
 use borrow.Rule.Slice.PartMut.{put_mid}
 use Rattle.score.specs.Music.{Event, Heard}
-use Rattle.score.specs.Print.{Symbol, printed, from_bar, so_many}
+use Rattle.score.specs.Print.{Symbol}
 use Rattle.score.specs.Calls.{Call, show, heard_in, Answer, symbols, sounds, most_bars, widest_span, voice, together, told}
 use Rattle.wire.specs.Bytes.{symbols_head, symbols_bytes, sounds_head, sounds_bytes, answer_bytes}
 use Rattle.wire.proofs.Rows.{length_symbols, length_sounds}
 use Rattle.wire.proofs.Written.{put-before}
-use Rattle.memory.specs.Store.{score_of, layout_of}
+use Rattle.memory.specs.Store.{score_of}
 use Rattle.memory.specs.Words.{Holds, Spans, events_at, answer_at}
 use Rattle.memory.proofs.Outcomes.{show_done, heard_done}
 use Rattle.engraving.specs.Shown.{shown, asked_for}

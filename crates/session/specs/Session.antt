@@ -1,5 +1,5 @@
 -- Lent memory as a session keeps it: what opening leaves there, and what a call leaves there and is answered. Assumes nothing: these are definitions.
-use Rattle.std.specs.Prelude.{◌≡◌, ℕ, ◌%◌, ◌≤◌, Bool, true, false, ◌&&◌, List, ◌++◌, length, take, drop, Some, None, Ok, Err, Option, Result, ◌==◌, nat_le, nat_lt}
+use Rattle.std.specs.Prelude.{◌≡◌, ℕ, ◌%◌, ◌≤◌, Bool, true, ◌&&◌, List, ◌++◌, length, take, drop, Some, None, Ok, Err, Option, Result, ◌==◌, nat_le, nat_lt}
 use Rattle.score.specs.Music.{pick}
 use Rattle.score.specs.Calls.{Call, Answer, done, refused, Limits, Layout}
 use Rattle.score.specs.Promise.{Memory, Engraver, whole}

@@ -1,5 +1,5 @@
 -- How events, symbols, sounds and answers are spelled. Assumes nothing: these are definitions.
-use Rattle.std.specs.Prelude.{ℕ, ◌+◌, ◌-◌, ◌*◌, ◌/◌, ◌%◌, Bool, true, false, List, [], ◌∷◌, ◌++◌, Some, None, codes, decimal, Option, ◌==◌}
+use Rattle.std.specs.Prelude.{ℕ, ◌/◌, ◌%◌, List, [], ◌∷◌, ◌++◌, Some, None, codes, decimal, Option, ◌==◌}
 use Rattle.score.specs.Music.{pick, Event, note, silence, Heard}
 use Rattle.score.specs.Print.{Symbol, bar, head, rest}
 use Rattle.score.specs.Calls.{Answer, done, refused, symbols, sounds, number}

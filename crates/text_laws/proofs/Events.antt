@@ -1,10 +1,10 @@
 -- Events are read back from their text. Assumes nothing.
-use Rattle.std.proofs.Common.{◌≡◌, ℕ, ◌+◌, ◌-◌, ◌*◌, ◌/◌, ◌%◌, ◌^◌, ◌<◌, ◌≤◌, true, false, ◌&&◌, eqb, ltb, List, [], ◌∷◌, ◌++◌, Ok, codes, decimal, sym, refl, ap, ◌∙◌, append_assoc, mod-lt, arith}
+use Rattle.std.proofs.Common.{◌≡◌, ℕ, ◌+◌, ◌-◌, ◌*◌, ◌/◌, ◌%◌, ◌<◌, ◌≤◌, true, false, ◌&&◌, eqb, ltb, List, [], ◌∷◌, ◌++◌, codes, decimal, sym, refl, ap, ◌∙◌, append_assoc, mod-lt, arith}
 use Rattle.std.proofs.lemmas.List.{append-nil}
 use Rattle.std.proofs.lemmas.Bool.{and_parts, ltb-true, lt-ltb, ne_eqb}
 use Rattle.score.specs.Music.{pick, Event, note, silence, places, alterations, length_end, fine_length, fine}
 use Rattle.score.proofs.Picks.{pick_true, pick_false}
-use Rattle.words.specs.Words.{Read, got, stuck, then, begins_with_digit, strip, one_of, number, spaced_number}
+use Rattle.words.specs.Words.{Read, got, then, begins_with_digit, strip, one_of, number, spaced_number}
 use Rattle.text.specs.Lines.{most_in_one, most_in_two, beginning, alteration_word, alteration_in, alteration, note_on, silence_on, event, whole}
 use Rattle.spelling.specs.Spelling.{letter, alteration_name, spelled_event}
 use Rattle.text_laws.specs.Back.{EventsBack}

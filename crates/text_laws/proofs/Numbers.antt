@@ -1,8 +1,8 @@
 -- Numbers are read back from their digits. Assumes nothing.
-use Rattle.std.proofs.Common.{◌≡◌, ℕ, ◌+◌, ◌*◌, ◌/◌, ◌%◌, ◌^◌, ◌<◌, ◌≤◌, true, false, List, [], ◌∷◌, ◌++◌, codes, decimal, sym, refl, ap, ◌∙◌, append_assoc, arith}
+use Rattle.std.proofs.Common.{◌≡◌, ℕ, ◌+◌, ◌*◌, ◌/◌, ◌%◌, ◌^◌, ◌<◌, ◌≤◌, true, false, List, [], ◌∷◌, ◌++◌, codes, decimal, refl, ap, ◌∙◌, append_assoc, arith}
 use Rattle.std.proofs.lemmas.Fmt.{decimal_by_steps}
 use Rattle.score.proofs.Picks.{pick_true}
-use Rattle.words.specs.Words.{Read, got, then, begins_with_digit, number_on, number, strip, spaced_number}
+use Rattle.words.specs.Words.{got, begins_with_digit, number_on, number, strip, spaced_number}
 use Rattle.words.proofs.Steps.{digit_is, digit_fits, digits_over}
 use Rattle.text_laws.specs.Back.{NumbersBack}
 

@@ -1,12 +1,11 @@
 -- Notes as they are heard are read back from their text. Assumes nothing.
-use Rattle.std.proofs.Common.{◌≡◌, ℕ, ◌^◌, ◌<◌, ◌≤◌, true, false, ◌&&◌, ltb, List, [], ◌∷◌, ◌++◌, codes, decimal, refl, ap, ◌∙◌, append_assoc, arith}
+use Rattle.std.proofs.Common.{◌≡◌, ℕ, ◌≤◌, false, ltb, List, ◌++◌, codes, decimal, refl, ap, ◌∙◌, append_assoc, arith}
 use Rattle.std.proofs.lemmas.Bool.{and_parts, ltb-true}
-use Rattle.score.specs.Music.{Heard, length_end}
-use Rattle.score.specs.Promise.{field, field_end}
-use Rattle.words.specs.Words.{Read, got, then, begins_with_digit, strip, number, spaced_number}
-use Rattle.spelling.specs.Spelling.{spelled_heard, spelled_sound}
+use Rattle.score.specs.Music.{length_end}
+use Rattle.score.specs.Promise.{field}
+use Rattle.words.specs.Words.{Read, got, then, begins_with_digit, spaced_number}
 use Rattle.notation.specs.Notation.{most_in_one, most_in_two, most_in_four, heard_on, sound_text}
-use Rattle.text_laws.specs.Back.{hearable, SoundsBack}
+use Rattle.text_laws.specs.Back.{SoundsBack}
 use Rattle.text_laws.proofs.Numbers.{numbers_back, spaced_back}
 
 -- the text of a sound, and more, from its front on

@@ -1,13 +1,13 @@
 -- Symbols are read back from their text. Assumes nothing.
-use Rattle.std.proofs.Common.{◌≡◌, ℕ, ◌+◌, ◌-◌, ◌*◌, ◌/◌, ◌%◌, ◌^◌, ◌<◌, ◌≤◌, Bool, true, false, not, ◌&&◌, ◌||◌, eqb, ltb, leb, List, [], ◌∷◌, ◌++◌, codes, decimal, sym, refl, ap, ◌∙◌, append_assoc, mod-lt, arith}
+use Rattle.std.proofs.Common.{◌≡◌, ℕ, ◌+◌, ◌-◌, ◌*◌, ◌/◌, ◌%◌, ◌<◌, ◌≤◌, Bool, true, false, not, ◌&&◌, ◌||◌, eqb, ltb, leb, List, [], ◌∷◌, ◌++◌, codes, decimal, sym, refl, ap, ◌∙◌, append_assoc, mod-lt, arith}
 use Rattle.std.proofs.lemmas.Bool.{and_parts, ltb-true, leb-true, eqb-false, ne_eqb}
 use Rattle.score.specs.Music.{pick, places, length_end}
-use Rattle.score.specs.Print.{Symbol, bar, head, rest}
+use Rattle.score.specs.Print.{bar, head, rest}
 use Rattle.score.proofs.Picks.{pick_false}
-use Rattle.words.specs.Words.{Read, got, stuck, then, or_else, is_digit, begins_with_digit, strip, one_of, number}
-use Rattle.spelling.specs.Spelling.{letter, mark, spelled_symbol}
-use Rattle.notation.specs.Notation.{most_in_one, most_in_two, kind, sign_mark, sign_at, step, tie_in, tie, value, head_on, head_text, rest_text, symbol_on, symbol_text}
-use Rattle.text_laws.specs.Back.{printable, ended, SymbolsBack}
+use Rattle.words.specs.Words.{Read, got, stuck, then, or_else, is_digit, begins_with_digit, strip, one_of}
+use Rattle.spelling.specs.Spelling.{letter, mark}
+use Rattle.notation.specs.Notation.{most_in_one, most_in_two, kind, sign_mark, sign_at, step, tie_in, tie, value, head_on, symbol_on, symbol_text}
+use Rattle.text_laws.specs.Back.{ended, SymbolsBack}
 use Rattle.text_laws.proofs.Cases.{six, seven, digit_range}
 use Rattle.text_laws.proofs.Numbers.{decimal_digit, numbers_back}
 

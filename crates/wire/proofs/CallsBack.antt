@@ -1,5 +1,5 @@
 -- A call comes back from its bytes, and no other row of bytes is read as that call. Assumes nothing.
-use Rattle.std.proofs.Common.{◌≡◌, ℕ, ◌+◌, ◌<◌, true, List, [], ◌∷◌, ◌++◌, Ok, sym, refl, ap, ◌∙◌, arith}
+use Rattle.std.proofs.Common.{◌≡◌, ℕ, ◌<◌, true, List, [], ◌∷◌, ◌++◌, Ok, sym, refl, ap, ◌∙◌, arith}
 use Rattle.std.proofs.lemmas.Bool.{and_parts}
 use Rattle.score.specs.Music.{Event, note, silence}
 use Rattle.score.specs.Calls.{Call, put, cut, change, show, heard_in, how_long}

@@ -1,5 +1,5 @@
 -- What is said first, and the row behind it.
-use Rattle.std.proofs.Common.{◌≡◌, ℕ, List, ◌++◌, drop, Some, string_bytes, Option, sym, ap, ◌∙◌}
+use Rattle.std.proofs.Common.{ℕ, List, ◌++◌, drop, Some, string_bytes, Option, sym, ap, ◌∙◌}
 use Rattle.std.specs.Option.{option_map}
 use Rattle.std.proofs.lemmas.List.{take_rest}
 use Rattle.score.specs.Calls.{symbols, sounds}

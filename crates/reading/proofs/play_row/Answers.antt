@@ -2,12 +2,11 @@
 use Rattle.std.proofs.Common.{◌≡◌, ℕ, ◌+◌, List, [], ◌++◌, map, length, drop, sym, ap, ◌∙◌, arith, length-drop, rules}
 use Rattle.std.proofs.lemmas.List.{append-nil, take_rest, drop-drop}
 use Rattle.score.specs.Meaning.{symbol_meant}
-use Rattle.score.specs.Music as music
 use Rattle.score.specs.Print.{Symbol}
 use Rattle.wire.specs.Reading.{symbol_of}
 use Rattle.reading.specs.Player.{State}
 use Rattle.reading.specs.Symbols.{playable, symbols_of}
-use Rattle.reading.specs.Told.{state_of, heard_meant, listed, notes}
+use Rattle.reading.specs.Told.{state_of, heard_meant, listed}
 use Rattle.reading.proofs.Steps.{to_hear, begins, ends_all}
 use Rattle.reading.proofs.Rows.{Found, found, none}
 use Rattle.reading.proofs.Hearing.{one_note, plays_on, starts, room, write, all}

@@ -1,5 +1,5 @@
 -- A score without events over the front of the lent memory.
-use Rattle.std.proofs.Common.{◌≡◌, ◌-◌, ◌≤◌, length, take, replicate, sym, ap, ◌∙◌, arith}
+use Rattle.std.proofs.Common.{◌≡◌, ◌-◌, ◌≤◌, length, replicate, ap, ◌∙◌, arith}
 use Rattle.std.proofs.lemmas.List.{length-take-le}
 use Rattle.session.proofs.Openings.{sized, opened, opens_good}
 use Rattle.session.proofs.open.Goals as goal

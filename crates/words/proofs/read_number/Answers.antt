@@ -1,5 +1,5 @@
 -- Digit by digit.
-use Rattle.std.proofs.Common.{◌≡◌, sym, ◌∙◌, arith}
+use Rattle.std.proofs.Common.{sym, ◌∙◌}
 use Rattle.score.proofs.Picks.{pick_false}
 use Rattle.words.specs.Words.{number}
 use Rattle.words.proofs.Steps.{number_begun, digit_fits, digit_too_much, digits_over}

@@ -1,5 +1,5 @@
 -- Word by word.
-use Rattle.std.proofs.Common.{◌≡◌, ◌<◌, ◌≤◌, length, sym, ap, ◌∙◌, arith}
+use Rattle.std.proofs.Common.{◌<◌, ◌≤◌, length, sym, ap, ◌∙◌, arith}
 use Rattle.std.proofs.lemmas.Bool.{lt-ltb, le-ltb}
 use Rattle.score.proofs.Picks.{pick_true, pick_false}
 use Rattle.words.proofs.Steps.{word_fits, word-unfit, words_over}

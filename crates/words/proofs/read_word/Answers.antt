@@ -1,5 +1,5 @@
 -- Letter by letter.
-use Rattle.std.proofs.Common.{◌≡◌, ◌<◌, ◌≤◌, length, sym, ◌∙◌, arith}
+use Rattle.std.proofs.Common.{◌<◌, ◌≤◌, length, sym, ◌∙◌, arith}
 use Rattle.words.proofs.Steps.{letter_same, letter_other, letter_none, letters_over}
 use Rattle.words.proofs.read_word.Goals as goal
 

@@ -1,7 +1,7 @@
 -- A span is turned away, or its sounds are written behind their head.
-use Rattle.std.proofs.Common.{◌≡◌, ℕ, ◌+◌, ◌-◌, ◌*◌, ◌≤◌, length, take, drop, subst, arith}
+use Rattle.std.proofs.Common.{ℕ, ◌+◌, ◌-◌, ◌*◌, ◌≤◌, length, take, drop, subst, arith}
 use Rattle.std.proofs.lemmas.List.{take_rest, length-drop}
-use Rattle.score.specs.Calls.{refused, heard_in, widest_span, place}
+use Rattle.score.specs.Calls.{refused, heard_in, place}
 use Rattle.memory.specs.Store.{limit_in}
 use Rattle.memory.proofs.Outcomes.{heard_too_wide}
 use Rattle.session.specs.Session.{Says}

@@ -1,6 +1,6 @@
 -- A show is turned away, or its bars are written behind their head.
-use Rattle.std.proofs.Common.{◌≡◌, ℕ, ◌+◌, ◌-◌, ◌≤◌, true, List, length, take, drop, sym, ap, ◌∙◌, subst, arith}
-use Rattle.score.specs.Music.{Event, all_fine}
+use Rattle.std.proofs.Common.{◌≡◌, ℕ, ◌+◌, ◌-◌, ◌≤◌, true, length, take, drop, ap, ◌∙◌, subst, arith}
+use Rattle.score.specs.Music.{all_fine}
 use Rattle.score.specs.Calls.{refused, show, most_bars, place}
 use Rattle.std.proofs.lemmas.List.{take_rest, length-drop}
 use Rattle.memory.specs.Store.{score_of}

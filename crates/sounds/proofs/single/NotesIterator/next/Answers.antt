@@ -1,5 +1,5 @@
 -- The note that comes is the next one behind the silences.
-use Rattle.std.proofs.Common.{refl, arith, rules}
+use Rattle.std.proofs.Common.{refl, arith}
 use Rattle.sounds.proofs.Line.{yet_short, over, stepped}
 use Rattle.sounds.proofs.single.NotesIterator.next.Goals as goal
 
