@@ -1,7 +1,7 @@
 /* A part for one player: opens a score, puts notes into a voice, and prints its bars as text.
  *
- *     rt staticlib capi
- *     gcc -O2 -Iinclude clients/part.c target/staticlib/libcapi.a -o /tmp/part && /tmp/part
+ *     (cd crates/capi && rt lib)
+ *     gcc -O2 -Iinclude clients/part.c crates/capi/out/libcapi.a -o /tmp/part && /tmp/part
  */
 #include <inttypes.h>
 #include <stdio.h>

@@ -2,7 +2,7 @@
 
     python3 tests/random_calls.py [PROGRAM] [LINES] [SEED]
 
-PROGRAM is target/bin/engrave if none is named, LINES 10,000 in all.
+PROGRAM is crates/engrave/out/engrave if none is named, LINES 10,000 in all.
 """
 import os
 import random
@@ -67,7 +67,7 @@ def script(r, lines):
 
 def main():
     root = os.path.dirname(os.path.dirname(os.path.abspath(__file__)))
-    program = sys.argv[1] if len(sys.argv) > 1 else os.path.join(root, "target", "bin", "engrave")
+    program = sys.argv[1] if len(sys.argv) > 1 else os.path.join(root, "crates", "engrave", "out", "engrave")
     lines = int(sys.argv[2]) if len(sys.argv) > 2 else 10000
     seed = int(sys.argv[3]) if len(sys.argv) > 3 else random.randrange(2**32)
     r, done, files = random.Random(seed), 0, 0
