@@ -1,5 +1,5 @@
 -- The memory that is asked for at opening is enough for ever, and each number fits its word or byte. Assumes nothing.
-use Rattle.std.proofs.Common.{◌≡◌, ℕ, ◌+◌, ◌≤◌, Bool, true, List, [], ◌∷◌, length, sym, refl, ap, ◌∙◌, subst, arith}
+use Rattle.std.proofs.Common.{◌≡◌, ℕ, ◌≤◌, Bool, true, List, [], ◌∷◌, length, sym, refl, ap, ◌∙◌, subst, arith}
 use Rattle.std.proofs.lemmas.List.{length-append, length-drop, length-replicate}
 use Rattle.std.proofs.lemmas.Bool.{and_parts}
 use Rattle.score.specs.Calls.{Call, Answer, Limits, Layout, Score, empty_voices, after, ran}

@@ -4,7 +4,7 @@ use Rattle.std.proofs.lemmas.List.{length-append}
 use Rattle.std.proofs.lemmas.Bool.{and_parts, and_from, lt-ltb, ltb-true, leb-true, eqb-true}
 use Rattle.score.specs.Music.{pick, Event, note, silence, lasts, total, fine, all_fine, Heard, heard, tone, of_step, places, alterations, length_end}
 use Rattle.score.specs.Print.{Symbol, bar, head, rest, key, Chunk, value, line, chunks, heads, rests, print, printed, from_bar, so_many}
-use Rattle.score.specs.Calls.{Call, put, cut, change, show, heard_in, how_long, refused, Limits, Layout, Score, voice, all_events, none_too_long, ticks_end, most_bars, good_fields, fits, changed, begins, merged, together, turned_by, turned, told, place, answer}
+use Rattle.score.specs.Calls.{Call, put, cut, change, show, heard_in, how_long, refused, Limits, Layout, Score, voice, all_events, none_too_long, ticks_end, most_bars, good_fields, fits, changed, begins, merged, together, turned_by, turned, told, place}
 use Rattle.score.specs.Promise.{GoodLayout, GoodLimits, field, field_end, readable}
 use Rattle.score.proofs.Picks.{pick_both}
 use Rattle.laws.specs.Laying.{LiesWell}
