@@ -5,6 +5,7 @@ pub mod Few
 pub mod Laid
 pub mod Steps
 pub mod Bars
+pub mod Onsets
 pub mod Owing
 pub mod Walk
 pub mod Room
@@ -15,3 +16,4 @@ pub mod Signs
 pub mod Staying
 pub mod Together
 pub mod Turning
+pub mod Reaching

@@ -4,6 +4,7 @@
 
 ghost use Rattle.score.specs.Promise.{ReadsBack, FromABar, BarsFull, SignsNeeded, Fewest, BarsStay, BarsAfter};
 ghost use Rattle.laws.specs.Laying.{ComesTo, LiesOverBars};
+ghost use Rattle.laws.specs.Onsets.{OnsetsStay, OnsetsAfter};
 ghost use Rattle.laws.specs.Shown.{BarsHeard};
 ghost use Rattle.score.specs.Promise.{TogetherInOrder, NothingLost, TurnedAway, Undone};
 
@@ -58,6 +59,16 @@ pub fn bars_stay()
 /// Voices that differ in a part that is as long in both are printed alike from the next bar line behind that part on.
 pub fn bars_after()
     ensures { BarsAfter }
+{}
+
+/// Where events begin on paper, and with which sign, depends on no event behind them.
+pub fn onsets_stay()
+    ensures { OnsetsStay }
+{}
+
+/// Where an event becomes another of the same length, all events from the next bar line on begin as they did, with the signs that they had.
+pub fn onsets_after()
+    ensures { OnsetsAfter }
 {}
 
 /// What is heard of all voices together is in order of time, and of voices where times are the same.

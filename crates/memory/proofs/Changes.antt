@@ -1,14 +1,16 @@
 -- What a put, a cut and a change do to a score: how many events there are then, how long its voices are, and all its events in a row. Assumes nothing.
 use Rattle.std.proofs.Common.{◌≡◌, ℕ, zero, suc, ◌+◌, ◌-◌, ◌<◌, ◌≤◌, true, false, ◌&&◌, ltb, List, [], ◌∷◌, ◌++◌, length, get_or, take, drop, set, sum_by, sym, refl, ap, ◌∙◌, arith}
 use Rattle.std.specs.List.{insert, remove}
-use Rattle.std.proofs.lemmas.List.{append_assoc, length-append, length-set, length_push, map-set, take_at, drop_at, take-append-drop, drop_more, set_split, set-append_left, set-append_right, length-take-le}
+use Rattle.std.proofs.lemmas.List.{append_assoc, length-append, length-set, length_push, map-set, take_at, drop_at, take-append-drop, drop_more, set_split, set-append_left, set-append_right, length-take-le, get_or-set_other}
 use Rattle.std.proofs.lemmas.List.Edits.{length-insert, length-remove}
 use Rattle.std.proofs.lemmas.List.Sums.{sum_by-set}
 use Rattle.std.proofs.lemmas.Bool.{and_parts}
 use Rattle.score.specs.Music.{Event, lasts, total}
 use Rattle.score.specs.Calls.{put, cut, change, Score, voice, all_events, none_too_long, ticks_end, changed}
 use Rattle.laws.proofs.Events.{total-++}
+use Rattle.laws.specs.Onsets.{onsets_of}
 use Rattle.memory.specs.Store.{flat, counts, ticks}
+use Rattle.memory.specs.Owed.{OthersUnreached}
 use Rattle.memory.proofs.Scores.{length_flat, flat_split, flat_set}
 use Rattle.memory.proofs.Held.{events_sum}
 
@@ -62,6 +64,10 @@ short_set (y ∷ ys) zero x h k =
 short_set (y ∷ ys) (suc v) x h k =
     let p = and_parts (ltb (total y) ticks_end) (none_too_long ys) k in
     ap (λ b. b && none_too_long (set ys v x)) p.0 ∙ short_set ys v x (omega arith) p.1
+
+-- the others stay as they are, and so does where their events begin on paper
+pub others_unreached : OthersUnreached
+others_unreached y s v u V ne = ap (onsets_of y.in_key y.bar_long) (get_or-set_other s v u V [] ne)
 
 -- ---- a put
 

@@ -1,7 +1,9 @@
 -- The theorems that are owed of words that hold a score, and of the engraver over them. Assumes nothing.
-use Rattle.std.specs.Prelude.{◌≡◌, ℕ, ◌+◌, ◌*◌, ◌≤◌, Bool, true, length}
-use Rattle.score.specs.Calls.{Call, Limits, Layout, Score, answer}
+use Rattle.std.specs.Prelude.{◌≡◌, ℕ, ◌+◌, ◌*◌, ◌≤◌, Bool, true, List, length, ◌≢◌, slice_set}
+use Rattle.score.specs.Music.{Event}
+use Rattle.score.specs.Calls.{Call, Limits, Layout, Score, voice, answer}
 use Rattle.score.specs.Promise.{GoodLayout, GoodLimits, readable, field_end, all_below, Right, RefusalKeeps, EnoughMemory}
+use Rattle.laws.specs.Onsets.{onsets_of}
 use Rattle.wire.specs.Bytes.{answer_bytes}
 use Rattle.wire.specs.Fits.{answer_fits}
 use Rattle.memory.specs.Store.{words_asked, bytes_asked, stored, score_of, Kept}
@@ -20,6 +22,12 @@ abbrev pub WordsCounted : Type 0
 WordsCounted =
     (l : Limits) (y : Layout) (s : Score) → Kept l s →
     (length (stored l y s) ≡ words_asked l.voices l.events) × (words_asked l.voices l.events ≤ 8 * l.events + 64 * l.voices + 4096)
+
+-- where the events of a voice begin on paper is a function of that voice: a change of voice v reaches no other
+abbrev pub OthersUnreached : Type 0
+OthersUnreached =
+    (y : Layout) (s : Score) (v u : ℕ) (V : List Event) → (u ≢ v) →
+    onsets_of y.in_key y.bar_long (voice (slice_set s v V) u) ≡ onsets_of y.in_key y.bar_long (voice s u)
 
 -- whichever calls can be done, and with signs or without; of the session `whole` and true
 abbrev pub EngraverRight : Type 0

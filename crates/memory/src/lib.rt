@@ -2,7 +2,7 @@
 //! whose contract is the statement.
 #![tactic(auto)]
 
-ghost use Rattle.memory.specs.Owed.{ScoreBack, WordsFit, WordsCounted, AnswersFit, AnswersShort, EngraverRight, EngraverKeeps, EngraverEnough};
+ghost use Rattle.memory.specs.Owed.{ScoreBack, WordsFit, WordsCounted, OthersUnreached, AnswersFit, AnswersShort, EngraverRight, EngraverKeeps, EngraverEnough};
 
 /// A score is read back from the words that it is stored as.
 pub fn score_reads_back()
@@ -17,6 +17,11 @@ pub fn words_fit()
 /// A score is stored in as many words as are asked for.
 pub fn words_counted()
     ensures { WordsCounted }
+{}
+
+/// Where the events of a voice begin on paper is not reached by a change of another.
+pub fn others_unreached()
+    ensures { OthersUnreached }
 {}
 
 /// Every answer that a score can give fits its fields.
