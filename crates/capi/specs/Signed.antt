@@ -9,6 +9,7 @@ use Rattle.score.specs.declared.Answer.TheVariants.{Done, Refused, Symbols, Soun
 use Rattle.memory.specs.Store.{words_asked, bytes_asked, voices_in, limit_in}
 use Rattle.session.specs.Session.{opens, words_taken, bytes_taken, memory_in, said_to, Answered}
 use Rattle.session.specs.declared.Opening.{Opening}
+use Rattle.session.specs.declared.Sizes.{Sizes}
 
 -- a refusal, below 0
 abbrev pub turned_away : ℕ → ℕ → ℤ
@@ -52,6 +53,14 @@ bytes_number o = pick (opens o) (pos (bytes_asked o.events)) (turned_away 3 1)
 -- what a header says that a score was opened with
 abbrev pub header_of : List ℕ → Opening
 header_of w = opening_of (slice_index w 0) (slice_index w 1) (voices_in w) (limit_in w)
+
+-- words have a header that a score may have, and are as many as such a score takes
+abbrev pub words_fit : List ℕ → Bool
+words_fit w = nat_le 4 (length w) && (opens (header_of w) && nat_le (words_taken w) (length w))
+
+-- and how much it takes
+abbrev pub taken_by : List ℕ → Option Sizes
+taken_by w = pick (words_fit w) (Some (record { words = words_taken w; bytes = bytes_taken w })) None
 
 -- memory has a header that a score may have, and room for such a score
 abbrev pub header_fits : List ℕ → List ℕ → Bool

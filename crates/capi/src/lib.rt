@@ -5,11 +5,14 @@ ghost use Rattle.std.specs.Prelude.{◌≡◌, ◌<◌, true, false, length, Som
 ghost use Rattle.score.specs.Music.{pick};
 ghost use Rattle.score.specs.Meaning.{refusal_number, refusal_place};
 ghost use Rattle.wire.specs.Reading.{said_of};
-ghost use Rattle.session.specs.Session.{open_answer, Ready, Opened, Unchanged};
-ghost use Rattle.capi.specs.Signed.{turned_away, if_done, signed, signed_by, opening_of, words_number, bytes_number, header_of, header_fits, Replied};
+ghost use Rattle.session.specs.Session.{open_answer, words_taken, Ready, Opened, Unchanged};
+ghost use Rattle.records.specs.Records.{said_next};
+ghost use Rattle.capi.specs.Signed.{turned_away, if_done, signed, signed_by, opening_of, words_number, bytes_number, header_of, words_fit, taken_by, header_fits, Replied};
+ghost use Rattle.capi.specs.Put.{ReadyWords, RecordsPut};
 
+use records::put_records;
 use score::{Answer, Refusal};
-use session::{Opening, call, open};
+use session::{Opening, Sizes, call, open};
 use wire::read_answer;
 
 /// A refusal's number and place as one number below 0.
@@ -138,4 +141,51 @@ pub extern "C" fn engraver_call(words: &mut [u32], bytes: &mut [u8], input: &[u8
         return refuse(Refusal::TooLittleMemory);
     }
     reply(words, bytes, input)
+}
+
+/// How much a score takes whose header words have, if it may be one and there are so many words.
+fn taken(words: &[u32]) -> Option<Sizes>
+    ensures { result ≡ taken_by words.now }
+{
+    let opening = header(words)?;
+    let sizes = opening.sizes()?;
+    if sizes.words > words.len() {
+        return None;
+    }
+    Some(sizes)
+}
+
+/// The number of what turned a record away, or 0.
+fn number_of_next(refusal: Option<Refusal>) -> i64
+    ensures { result ≡ signed 0 (said_next refusal) }
+{
+    match refusal {
+        Some(refusal) => refuse(refusal),
+        None => 0,
+    }
+}
+
+/// Puts records into the words that a score takes, of those that are lent.
+fn enter(words: &mut [u32], taken: usize, records: &[u32], refusal: &mut i64) -> i64
+    requires { (ReadyWords words.old) × (taken ≡ words_taken words.old) }
+    ensures { RecordsPut words.old records.now words.new refusal.new result }
+{
+    let entered = put_records(&mut words[0..taken], records);
+    *refusal = number_of_next(entered.refusal);
+    entered.count as i64
+}
+
+/// Puts events last in their voices, one after the other, until one cannot be, and returns how many were put. The next one's refusal, or 0, goes to
+/// `refusal`. An event is four numbers: its voice, its place or 70 for a silence, its alteration, which is not read of a silence, and its length. Memory whose
+/// header cannot be that of a score which has room there is refused and stays as it was; of other memory it is asked what `engraver_call` asks.
+#[unsafe(no_mangle)]
+pub extern "C" fn engraver_put_records(words: &mut [u32], records: &[u32], refusal: &mut i64) -> i64
+    requires { words_fit words.old ≡ true → ReadyWords words.old }
+    ensures entered { words_fit words.old ≡ true → RecordsPut words.old records.now words.new refusal.new result }
+    ensures refused { words_fit words.old ≡ false → (result ≡ turned_away 3 0) × (words.new ≡ words.old) × (refusal.new ≡ refusal.old) }
+{
+    match taken(words) {
+        Some(sizes) => enter(words, sizes.words, records, refusal),
+        None => refuse(Refusal::TooLittleMemory),
+    }
 }
