@@ -1,4 +1,4 @@
-/* A part for one player: opens a score, puts notes into a voice, and prints its bars as text.
+/* A part for one player: opens a score, puts notes into a voice as records, lets the last one be longer, and prints the bars as text.
  *
  *     (cd crates/capi && rt lib)
  *     gcc -O2 -Iinclude clients/part.c crates/capi/out/libcapi.a -o /tmp/part && /tmp/part
@@ -9,7 +9,7 @@
 
 #include "engraver.h"
 
-enum { KEY = 8, BAR = 144, VOICES = 1, EVENTS = 64, SILENCE = -1 };
+enum { KEY = 8, BAR = 144, VOICES = 1, EVENTS = 64, SILENCE = 70 };
 
 struct score {
     uint32_t *words;
@@ -18,10 +18,12 @@ struct score {
     size_t byte_count;
 };
 
-struct event {
-    int place; /* 7 times the octave and a step from c to b, or SILENCE */
-    uint8_t alteration;
-    uint16_t length;
+/* An event for a voice, as engraver_put_records reads it. */
+struct record {
+    uint32_t voice;
+    uint32_t place; /* 7 times the octave and a step from c to b, or SILENCE */
+    uint32_t alteration;
+    uint32_t length;
 };
 
 static const char STEPS[] = "cdefgab";
@@ -69,19 +71,30 @@ static struct score opened(void)
     return score;
 }
 
-/* Puts an event before the one of that index, or last. */
-static void put(struct score *score, uint32_t voice, uint32_t index, struct event event)
+/* Puts events last in their voices. */
+static void put(struct score *score, const struct record *records, size_t count)
 {
-    uint8_t input[14] = {0};
-    uint8_t *at = four(four(input + 1, voice), index);
-    *at++ = event.place == SILENCE;
-    *at++ = event.place == SILENCE ? 0 : (uint8_t)event.place;
-    *at++ = event.place == SILENCE ? 0 : event.alteration;
-    *at++ = (uint8_t)(event.length & 255);
-    *at++ = (uint8_t)(event.length >> 8);
+    int64_t refusal;
+    int64_t done = engraver_put_records(score->words, score->word_count, (const uint32_t *)records, 4 * count, &refusal);
+    if (done < 0)
+        stop("put", done);
+    if (refusal < 0)
+        stop("put", refusal);
+}
+
+/* Changes the event of an index in a voice into a note. */
+static void change(struct score *score, uint32_t index, struct record note)
+{
+    uint8_t input[14] = {2};
+    uint8_t *at = four(four(input + 1, note.voice), index);
+    *at++ = 0;
+    *at++ = (uint8_t)note.place;
+    *at++ = (uint8_t)note.alteration;
+    *at++ = (uint8_t)(note.length & 255);
+    *at++ = (uint8_t)(note.length >> 8);
     int64_t number = call(score, input, sizeof input);
     if (number < 0)
-        stop("put", number);
+        stop("change", number);
 }
 
 /* Prints bars of a voice, a line for each. */
@@ -107,12 +120,13 @@ static void show(struct score *score, uint32_t voice, uint32_t bar, uint32_t cou
 
 int main(void)
 {
-    static const struct event notes[] = {
-        {32, 2, 48}, {31, 3, 48}, {31, 2, 72}, {31, 3, 24}, {SILENCE, 0, 60}, {29, 3, 180}, {28, 2, 48},
+    static const struct record notes[] = {
+        {0, 32, 2, 48}, {0, 31, 3, 48}, {0, 31, 2, 72}, {0, 31, 3, 24}, {0, SILENCE, 0, 60}, {0, 29, 3, 180}, {0, 28, 2, 24},
     };
+    size_t count = sizeof notes / sizeof notes[0];
     struct score score = opened();
-    for (uint32_t i = 0; i < sizeof notes / sizeof notes[0]; i++)
-        put(&score, 0, i, notes[i]);
+    put(&score, notes, count);
+    change(&score, (uint32_t)count - 1, (struct record){0, 28, 2, 48});
     show(&score, 0, 0, 16);
     free(score.words);
     free(score.bytes);

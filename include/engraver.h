@@ -34,9 +34,19 @@ int64_t engraver_open(uint32_t *words, size_t word_count, uint8_t *bytes, size_t
  * first byte that does not fit.
  *
  * Memory whose header cannot be that of a score with room there (its first four words are out of range, or ask for more words or bytes than there are)
- * is refused by 3 at 0, and neither words nor bytes have changed. Asked of the caller: memory whose header can be is as engraver_open or engraver_call
- * left it, with the first words and bytes that the score asks for where they were. That is not looked at again with each call. */
+ * is refused by 3 at 0, and neither words nor bytes have changed. Asked of the caller: memory whose header can be is as one of these functions left it,
+ * with the first words and bytes that the score asks for where they were. That is not looked at again with each call. */
 int64_t engraver_call(uint32_t *words, size_t word_count, uint8_t *bytes, size_t byte_count, const uint8_t *input, size_t input_count);
+
+/* Puts events last in their voices, one after the other, until one cannot be, and returns how many were put. An event is four numbers of the records: its
+ * voice, its place or 70 for a silence, its alteration, which is not read of a silence, and its length. The refusal becomes that of the next event, as a
+ * number below 0, or 0 where all were put: 2 at 0 where a number is out of range (a place above 70, too), 4 at the number of a voice that is not there, and 6
+ * at 0, as the call put is refused. Numbers that are over behind the last four are an event that ends too early, refused by 1 at how many numbers there are.
+ * The words are then as so many calls leave them; the bytes are not needed.
+ *
+ * Memory is refused, and asked of the caller, as in engraver_call, as far as words go; then neither words nor the refusal have changed. The refusal points to
+ * a number of the caller's that is not among the words nor the records. */
+int64_t engraver_put_records(uint32_t *words, size_t word_count, const uint32_t *records, size_t number_count, int64_t *refusal);
 
 /* Of a number below 0, the refusal, 1 to 6. */
 static inline uint32_t engraver_refusal(int64_t number) { return (uint32_t)((uint64_t)-number >> 32); }

@@ -1,21 +1,20 @@
 //! Drives the engraver's static library beside an independent implementation: random calls, valid and damaged, on many scores. Every answer is compared
 //! byte by byte, and every page that is shown is read back and compared with what is heard.
+mod library;
 mod model;
+mod random;
 mod reader;
 
-use model::{call_bytes, heard, opens, Call, Event, Heard, Refused, Score};
+use library::Opening;
+use model::{call_bytes, heard, opens, record_event, record_of, Call, Event, Heard, Refused, Score};
+use random::Random;
 
 const SCORES: u64 = 100;
 const CALLS: u64 = 10_000;
+/// How often records are put before the first call.
+const FILLS: u64 = 100;
 /// Words and bytes that are lent and not asked for, which nobody may touch.
 const SPARE: usize = 8;
-
-extern "C" {
-    fn engraver_words(key: u32, bar: u32, voices: u32, events: u32) -> i64;
-    fn engraver_bytes(key: u32, bar: u32, voices: u32, events: u32) -> i64;
-    fn engraver_open(words: *mut u32, n: usize, bytes: *mut u8, m: usize, key: u32, bar: u32, voices: u32, events: u32) -> i64;
-    fn engraver_call(words: *mut u32, n: usize, bytes: *mut u8, m: usize, input: *const u8, k: usize) -> i64;
-}
 
 /// The memory that is lent for a score.
 struct Lent {
@@ -24,43 +23,17 @@ struct Lent {
 }
 
 impl Lent {
-    fn open(&mut self, key: u32, bar: u32, voices: u32, events: u32) -> i64 {
-        let (w, b) = (&mut self.words, &mut self.bytes);
-        unsafe { engraver_open(w.as_mut_ptr(), w.len(), b.as_mut_ptr(), b.len(), key, bar, voices, events) }
+    fn open(&mut self, opening: Opening) -> i64 {
+        library::open(&mut self.words, &mut self.bytes, opening)
     }
 
     fn call(&mut self, input: &[u8]) -> i64 {
-        self.call_in(self.words.len(), self.bytes.len(), input)
+        library::call(&mut self.words, &mut self.bytes, input)
     }
 
     /// A call on so many of the words and bytes.
     fn call_in(&mut self, words: usize, bytes: usize, input: &[u8]) -> i64 {
-        assert!(words <= self.words.len() && bytes <= self.bytes.len());
-        unsafe { engraver_call(self.words.as_mut_ptr(), words, self.bytes.as_mut_ptr(), bytes, input.as_ptr(), input.len()) }
-    }
-}
-
-struct Random(u64);
-
-impl Random {
-    fn next(&mut self) -> u64 {
-        self.0 = self.0.wrapping_add(0x9e37_79b9_7f4a_7c15);
-        let mut z = self.0;
-        z = (z ^ (z >> 30)).wrapping_mul(0xbf58_476d_1ce4_e5b9);
-        z = (z ^ (z >> 27)).wrapping_mul(0x94d0_49bb_1331_11eb);
-        z ^ (z >> 31)
-    }
-
-    fn below(&mut self, n: u64) -> u64 {
-        self.next() % n
-    }
-
-    fn one_in(&mut self, n: u64) -> bool {
-        self.below(n) == 0
-    }
-
-    fn pick<T: Copy>(&mut self, from: &[T]) -> T {
-        from[self.below(from.len() as u64) as usize]
+        library::call(&mut self.words[..words], &mut self.bytes[..bytes], input)
     }
 }
 
@@ -133,6 +106,46 @@ fn damage(r: &mut Random, bytes: &mut Vec<u8>) {
     }
 }
 
+/// Records for some voices, more often in range than not, and now and then with numbers over at the end.
+fn records(r: &mut Random, m: &Manner, voices: usize) -> Vec<u32> {
+    let mut numbers = Vec::new();
+    for _ in 0..r.below(12) {
+        let v = if r.one_in(50) { r.pick(&[voices as u32, u32::MAX]) } else { r.below(voices as u64) as u32 };
+        let mut record = record_of(v, event(r, m));
+        if record[1] == 70 {
+            record[2] = r.next() as u32;
+        }
+        numbers.extend(record);
+    }
+    if !numbers.is_empty() && r.one_in(6) {
+        let at = r.below(numbers.len() as u64) as usize;
+        numbers[at] = r.pick(&[70, 71, numbers[at].wrapping_add(256), numbers[at].wrapping_add(65536), u32::MAX]);
+    }
+    if r.one_in(5) {
+        numbers.extend((0..r.below(4)).map(|_| r.below(70) as u32));
+    }
+    numbers
+}
+
+/// Puts records, and compares what is told of it with the model, and the words with those that so many puts leave.
+fn put_records(r: &mut Random, t: &mut Tally, lent: &mut Lent, m: &Manner, score: &mut Score) {
+    let numbers = records(r, m, score.voices.len());
+    let mut one_by_one = Lent { words: lent.words.clone(), bytes: lent.bytes.clone() };
+    let mut ends: Vec<u32> = score.voices.iter().map(|v| v.len() as u32).collect();
+    let mut refusal = 9;
+    let count = library::put_records(&mut lent.words, &numbers, &mut refusal);
+    assert_eq!((count, refusal), score.put_records(&numbers), "something else is told of {numbers:?}");
+    for record in numbers.chunks_exact(4).take(count as usize) {
+        let [v, place, alteration, length] = *record else { unreachable!() };
+        let put = Call::Put(v, ends[v as usize], record_event(place, alteration, length));
+        assert_eq!(one_by_one.call(&call_bytes(put)), 1);
+        ends[v as usize] += 1;
+    }
+    assert!(lent.words == one_by_one.words, "other words than so many puts leave: {numbers:?}");
+    t.records += count as u64;
+    t.records_refused += (refusal < 0) as u64;
+}
+
 #[derive(Default)]
 struct Tally {
     calls: u64,
@@ -143,6 +156,8 @@ struct Tally {
     notes_read: u64,
     other_memory: u64,
     openings: u64,
+    records: u64,
+    records_refused: u64,
 }
 
 /// Whether a note goes on over a time.
@@ -197,6 +212,11 @@ fn other_memory(r: &mut Random, t: &mut Tally, lent: &mut Lent, asked: (usize, u
     }
     let (w, b) = (lent.words.clone(), lent.bytes.clone());
     assert_eq!(lent.call_in(words, bytes, input), Refused(3, 0).number());
+    if bytes == asked.1 {
+        let mut refusal = 9;
+        assert_eq!(library::put_records(&mut lent.words[..words], &[0, 28, 2, 48], &mut refusal), Refused(3, 0).number());
+        assert_eq!(refusal, 9);
+    }
     assert!(lent.words == w && lent.bytes == b, "refused memory has changed");
     lent.words[..4].copy_from_slice(&header);
     t.other_memory += 1;
@@ -209,25 +229,33 @@ fn openings(r: &mut Random, t: &mut Tally) {
         let bar = r.pick(&[0, 1, 3, 48, 144, 192, 193, 768, 769, 771, u32::MAX]);
         let voices = r.pick(&[0, 1, 2, 8, 63, 64, 65, u32::MAX]);
         let events = r.pick(&[0, 1, 2, 100, 65536, 65537, u32::MAX]);
-        let good = opens(key, bar, voices, events);
-        let out_of_range = Refused(3, 1).number();
-        let words = if good { 4 + 2 * voices as i64 + 3 * events as i64 } else { out_of_range };
-        let bytes = if good { 262_144 + 8 * events as i64 } else { out_of_range };
-        assert_eq!(unsafe { engraver_words(key, bar, voices, events) }, words);
-        assert_eq!(unsafe { engraver_bytes(key, bar, voices, events) }, bytes);
-        let lack = r.pick(&[(0, 0), (0, 0), (1, 0), (0, 1)]);
-        let mut lent = Lent { words: vec![7; (words.max(0) - lack.0).max(0) as usize], bytes: vec![9; (bytes.max(0) - lack.1).max(0) as usize] };
-        let number = lent.open(key, bar, voices, events);
-        if good && lack == (0, 0) {
-            assert_eq!(number, 0);
-            assert_eq!(lent.words[..4], [key, bar, voices, events]);
-            assert!(lent.words[4..].iter().all(|w| *w == 0) && lent.bytes.iter().all(|b| *b == 0));
+        let opening = Opening { key, bar, voices, events };
+        if opens(key, bar, voices, events) {
+            opened(r, opening);
         } else {
-            assert_eq!(number, if good { Refused(3, 0).number() } else { out_of_range });
-            assert!(lent.words.iter().all(|w| *w == 7) && lent.bytes.iter().all(|b| *b == 9));
+            let out_of_range = Refused(3, 1).number();
+            assert_eq!((opening.words(), opening.bytes()), (out_of_range, out_of_range));
+            assert_eq!(library::open(&mut [0; 100], &mut [0; 100], opening), out_of_range);
         }
         t.openings += 1;
     }
+}
+
+/// An opening in range asks for just so much, leaves the same words whatever stood there, and changes nothing in less memory than it asks for.
+fn opened(r: &mut Random, opening: Opening) {
+    let (words, bytes) = (opening.words(), opening.bytes());
+    assert_eq!(words, 4 + 2 * opening.voices as i64 + 3 * opening.events as i64);
+    assert_eq!(bytes, 262_144 + 8 * opening.events as i64);
+    let mut lent = Lent { words: vec![7; words as usize], bytes: vec![9; bytes as usize] };
+    let (less_words, less_bytes) = r.pick(&[(1, 0), (0, 1), (words as usize, 0), (0, bytes as usize)]);
+    let (less_words, less_bytes) = (words as usize - less_words, bytes as usize - less_bytes);
+    assert_eq!(library::open(&mut lent.words[..less_words], &mut lent.bytes[..less_bytes], opening), Refused(3, 0).number());
+    assert!(lent.words.iter().all(|w| *w == 7) && lent.bytes.iter().all(|b| *b == 9));
+    let mut other = Lent { words: vec![u32::MAX; words as usize], bytes: vec![0; bytes as usize] };
+    assert_eq!((lent.open(opening), other.open(opening)), (0, 0));
+    assert_eq!(lent.words[..4], [opening.key, opening.bar, opening.voices, opening.events]);
+    assert!(lent.words[4..].iter().all(|w| *w == 0) && lent.bytes.iter().all(|b| *b == 0));
+    assert!(lent.words == other.words && lent.bytes == other.bytes, "an opening leaves what stood there");
 }
 
 fn drive(r: &mut Random, t: &mut Tally, which: u64) {
@@ -243,10 +271,14 @@ fn drive(r: &mut Random, t: &mut Tally, which: u64) {
         longest: if long { 21845 } else { r.pick(&[8, 32, 64, 128]) },
         questions: if long { 20 } else { 2 },
     };
-    let asked = (unsafe { engraver_words(key, bar, voices, limit) } as usize, unsafe { engraver_bytes(key, bar, voices, limit) } as usize);
+    let opening = Opening { key, bar, voices, events: limit };
+    let asked = (opening.words() as usize, opening.bytes() as usize);
     let mut lent = Lent { words: vec![0xabcd; asked.0 + SPARE], bytes: vec![0xab; asked.1 + SPARE] };
-    assert_eq!(lent.open(key, bar, voices, limit), 0);
+    assert_eq!(lent.open(opening), 0);
     let mut score = Score { key, bar, limit: limit as usize, voices: vec![Vec::new(); voices as usize] };
+    for _ in 0..FILLS {
+        put_records(r, t, &mut lent, &manner, &mut score);
+    }
     for _ in 0..CALLS {
         let called = call(r, &manner, &score);
         let mut input = call_bytes(called);
@@ -255,6 +287,9 @@ fn drive(r: &mut Random, t: &mut Tally, which: u64) {
         }
         if r.one_in(500) {
             other_memory(r, t, &mut lent, asked, &input);
+        }
+        if r.one_in(50) {
+            put_records(r, t, &mut lent, &manner, &mut score);
         }
         let before = lent.words.clone();
         let number = lent.call(&input);
@@ -286,4 +321,5 @@ fn main() {
     println!("of the calls {} were refused, {} of them since they are no calls", t.refused, t.unreadable);
     println!("{} pages were shown, {} read back, with {} notes", t.pages, t.pages_read, t.notes_read);
     println!("{} calls on memory without a score were refused", t.other_memory);
+    println!("{} events were put as records, until {} were refused", t.records, t.records_refused);
 }

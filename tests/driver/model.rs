@@ -217,6 +217,19 @@ pub fn printed(key: u32, bar: u32, voice: &[Event]) -> Vec<Vec<Symbol>> {
     bars
 }
 
+/// The event of a record: 70 is the place of a silence, whose alteration is not read.
+pub fn record_event(place: u32, alteration: u32, length: u32) -> Event {
+    if place == 70 { Event::Silence { length } } else { Event::Note { place, alteration, length } }
+}
+
+/// An event for a voice as a record.
+pub fn record_of(voice: u32, event: Event) -> [u32; 4] {
+    match event {
+        Event::Note { place, alteration, length } => [voice, place, alteration, length],
+        Event::Silence { length } => [voice, 70, 0, length],
+    }
+}
+
 pub struct Score {
     pub key: u32,
     pub bar: u32,
@@ -244,7 +257,7 @@ impl Score {
             Event::Note { place, alteration, .. } => place < 70 && alteration < 5,
             Event::Silence { .. } => true,
         };
-        if good && length > 0 && length % 3 == 0 { Ok(()) } else { Err(Refused(2, 0)) }
+        if good && length > 0 && length < 65536 && length % 3 == 0 { Ok(()) } else { Err(Refused(2, 0)) }
     }
 
     /// The voice becomes another, if that is not too much.
@@ -315,6 +328,25 @@ impl Score {
                 Ok(out)
             }
         }
+    }
+
+    /// Puts records of four numbers last in their voices until one cannot be: how many were, and the number of the next one's refusal, or 0.
+    pub fn put_records(&mut self, numbers: &[u32]) -> (i64, i64) {
+        let mut count = 0;
+        for record in numbers.chunks(4) {
+            let said = match *record {
+                [v, place, alteration, length] => {
+                    let last = self.voices.get(v as usize).map_or(0, Vec::len) as u32;
+                    self.done(Call::Put(v, last, record_event(place, alteration, length)))
+                }
+                _ => Err(Refused(1, numbers.len() as u32)),
+            };
+            match said {
+                Ok(_) => count += 1,
+                Err(refused) => return (count, refused.number()),
+            }
+        }
+        (count, 0)
     }
 
     /// What is answered to bytes, and the number that is returned with it.

@@ -3,10 +3,13 @@
 
 use input::read_input;
 use script::answer_script;
+use std::process::ExitCode;
 
-fn main(rt: HostRuntime) -> anyhow::Result<()> {
-    let text = read_input(&rt, "engrave")?;
+fn main(rt: HostRuntime) -> anyhow::Result<ExitCode> {
+    let Ok(text) = read_input(&rt, "engrave") else {
+        return Ok(ExitCode::FAILURE);
+    };
     let answers = answer_script(rt.alloc(), &text)?;
     rt.print(answers.as_str())?;
-    Ok(())
+    Ok(ExitCode::SUCCESS)
 }

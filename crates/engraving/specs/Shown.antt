@@ -12,7 +12,7 @@ asked_for k b es from n = so_many (from_bar from (printed k b es)) n
 abbrev pub shown : ℕ → ℕ → List Event → ℕ → ℕ → List ℕ
 shown k b es from n = symbols_bytes (asked_for k b es from n)
 
--- as many bytes as most-bars of 768 ticks can take, each a line and no value shorter than 3
+-- as many bytes as most_bars of 768 ticks can take, each a line and no value shorter than 3
 abbrev pub page_bytes : ℕ
 page_bytes = 5 * (most_bars * (768 / 3 + 1))
 

@@ -12,6 +12,7 @@ use score::Event;
 use script::lines::next_line;
 use spelling::{spell_refusal, spell_symbols};
 use std::alloc::{AllocError, Global};
+use std::process::ExitCode;
 use text::{Unfit, read_event_line, read_setting};
 
 /// How many events a voice may have here.
@@ -181,10 +182,12 @@ fn proofread(heap: Global, text: &[u8], out: &mut String) -> anyhow::Result<()> 
     print(heap, &voice, Layout { key, bar }, out)
 }
 
-fn main(rt: HostRuntime) -> anyhow::Result<()> {
-    let text = read_input(&rt, "proofread")?;
+fn main(rt: HostRuntime) -> anyhow::Result<ExitCode> {
+    let Ok(text) = read_input(&rt, "proofread") else {
+        return Ok(ExitCode::FAILURE);
+    };
     let mut out = String::new(rt.alloc());
     proofread(rt.alloc(), &text, &mut out)?;
     rt.print(out.as_str())?;
-    Ok(())
+    Ok(ExitCode::SUCCESS)
 }
