@@ -24,8 +24,8 @@ int64_t engraver_bytes(uint32_t key, uint32_t bar, uint32_t voices, uint32_t eve
 /* Opens a score without events and returns 0. Refused by 3 at 1 where a number is out of range, and by 3 at 0 where there are fewer words or bytes than
  * are asked for; then nothing has changed. What lies past the words and bytes that are asked for is never touched.
  *
- * Asked of the caller, here and in engraver_call: a pointer is that of so many words or bytes, and not null even if they are none; the words, the bytes
- * and the input share no memory. */
+ * Asked of the caller, here, in engraver_call and in engraver_put_records: a pointer is that of so many words, bytes or numbers, and not null even if they
+ * are none; words, bytes, input, records and refusal share no memory. */
 int64_t engraver_open(uint32_t *words, size_t word_count, uint8_t *bytes, size_t byte_count, uint32_t key, uint32_t bar, uint32_t voices,
                       uint32_t events);
 

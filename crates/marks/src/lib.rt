@@ -3,7 +3,7 @@
 //! A range of events is marked, and then they are taken one by one from the front, until all words are 0 again.
 #![tactic(auto)]
 
-ghost use Rattle.std.specs.Prelude.{◌≡◌, ◌-◌, ◌/◌, ◌%◌, ◌^◌, ◌<◌, ◌≤◌, true, length, set, replicate, slice_index, slice_set};
+ghost use Rattle.std.specs.Prelude.{◌≡◌, ◌-◌, ◌/◌, ◌%◌, ◌^◌, ◌<◌, ◌≤◌, true, length, replicate, slice_index, slice_set};
 ghost use Rattle.marks.specs.Marked.{has, low, marked};
 
 /// A word has a bit for each of so many events.
