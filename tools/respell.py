@@ -3,8 +3,8 @@
 
 usage: python3 tools/respell.py      at the top of the repository, once, after /opt/rattle/port/port.py
 
-A definition, a lemma, a field or a constructor that is spelled with hyphens gets underscores (`bars-of` is `bars_of`), a type gets capitals in
-place of the hyphens (`Bars-full` is `BarsFull`). Only names that a file of specs/ or a lemma file of proofs/ declares are turned, and only where
+A definition, a lemma, a field, a constructor or a bound name that is spelled with hyphens gets underscores (`bars-of` is `bars_of`), a type gets
+capitals in place of the hyphens (`Bars-full` is `BarsFull`). Only names that a file of specs/ or a lemma file of proofs/ declares are turned, and only where
 antt is read: in .antt files, and in the clauses and `ghost use` lines of .rt files. Names of functions in src/, of goals, and of Rattle's own
 library keep their spelling. Where two names would fall together it says so and writes nothing.
 """
@@ -15,7 +15,9 @@ import sys
 
 NAME = r"[A-Za-z_0-9'\u00b2-\u00b9\u2080-\u209c-]+"
 TOKEN = re.compile(r"(?<![A-Za-z_0-9'\u00b2-\u00b9\u2080-\u209c·-])" + NAME)
-DECLARED = re.compile(r"^\s*(?:abbrev |unfoldable )?(?:pub )?(?:abbrev |unfoldable )?(" + NAME + r") : ")
+DECLARED = re.compile(r"^\s*(?:abbrev |unfoldable )?(?:pub )?(?:abbrev |unfoldable )?(" + NAME + r") :(?: |$)")
+BOUND = re.compile(r"\blet (" + NAME + r") [:=] |\((" + NAME + r") : ")
+JOINED = re.compile(r"\b([a-z]+(?:-[a-z]+)+)-\+\+")
 TYPE = re.compile(r"^\s*(?:pub )?(?:data|record) (" + NAME + r")")
 USE = re.compile(r"^\s*(?:pub )?(?:ghost )?use ([A-Za-z_.0-9+]+)\.\{(.*)\}")
 ANSWERS = re.compile(r"/(Answers|Invariants|Proof|Choices)\.antt$")
@@ -51,25 +53,33 @@ def declared(path, text):
 
 
 def own_names(root):
-    """What this repository declares or calls so by `as`, and what it takes from Rattle's library."""
-    own, library = set(), set()
+    """What this repository declares or calls so by `as`, what it only binds in a term, and what it takes from Rattle's library."""
+    own, bound, library = set(), set(), set()
     for path in (*files(root, ".antt"), *files(root, ".rt")):
         text = read(path)
         if path.endswith(".antt"):
             own.update(declared(path, text))
+            bound.update(a or b for a, b in BOUND.findall(text))
         for line in text.split("\n"):
             m = USE.match(line)
             if m and (path.endswith(".antt") or "ghost use" in line):
                 own.update(n.split(" as ")[1].strip() for n in m.group(2).split(",") if " as " in n)
             if m and (not m.group(1).startswith("Rattle.") or m.group(1).startswith("Rattle.std")):
                 library.update(n.split(" as ")[0].strip() for n in m.group(2).split(","))
-    return own, library
+    return own, bound - own, library
+
+
+def falls_together(root, name):
+    """Whether a file that binds a name has the name that it is to get."""
+    texts = (set(TOKEN.findall(read(p))) for p in files(root, ".antt"))
+    return any(name in words and turned(name) in words for words in texts)
 
 
 def renaming(root):
-    own, library = own_names(root)
-    names = {n: turned(n) for n in own if "-" in n and "-" != n}
-    together = [(n, m) for n, m in sorted(names.items()) if m in own or sum(v == m for v in names.values()) > 1]
+    own, bound, library = own_names(root)
+    names = {n: turned(n) for n in own | bound if "-" in n and "-" != n}
+    together = [(n, m) for n, m in sorted(names.items()) if n in own and (m in own or sum(names[k] == m for k in names if k in own) > 1)]
+    together += [(n, names[n]) for n in sorted(bound & names.keys()) if falls_together(root, n)]
     both = sorted(n for n in names if n in library)
     if together or both:
         sys.exit(f"respell: names that fall together: {together}; names of the library: {both}")
@@ -80,7 +90,8 @@ def turn_tokens(text, names):
     def turn(m):
         return names.get(m.group(0), m.group(0))
 
-    return TOKEN.sub(turn, text)
+    # a dash stays where it joins a name to an operator
+    return JOINED.sub(lambda m: turned(m.group(1)) + "-++", TOKEN.sub(turn, text))
 
 
 def turn_comment(text, names):

@@ -31,9 +31,9 @@ take_more {A = A} f g w n i is js x bs whole h e s inv =
     ∙ ap (λ m. ahead (map g is) (row_of f w m bs)) (sym z)
     ∙ inv
 
-pub take-first :
+pub take_first :
     {A B : Type 0} (f : List ℕ → Option A) (g : B → A) (w n : ℕ) (is : List B) (bs : List ℕ) → is ≡ [] → ahead (map g is) (row_of f w (n - 0) bs) ≡ row_of f w n bs
-take-first f g w n is bs e =
+take_first f g w n is bs e =
     let z : n - 0 ≡ n = omega arith in
     ap (λ q. ahead (map g q) (row_of f w (n - 0) bs)) e ∙ ahead_none (row_of f w (n - 0) bs) ∙ ap (λ m. row_of f w m bs) z
 

@@ -127,10 +127,10 @@ module _ (k b : ℕ) where
   next_onset es j n o st os e lj ee h =
       let s : j + 1 ≡ suc j = omega arith in
       let d : drop j es ≡ e ∷ drop (suc j) es = drop_more es j (silence 0) lj ∙ ap₂ (λ (x : Event) (i : ℕ). x ∷ drop i es) ee s in
-      let os-is : drop j os ≡ record { bar = n; tick = o; sign = sign_at st e } ∷ onsets k b (bar_behind n o e) (tick_behind o e) (held_behind k b o st e) (drop (suc j) es) =
+      let os_is : drop j os ≡ record { bar = n; tick = o; sign = sign_at st e } ∷ onsets k b (bar_behind n o e) (tick_behind o e) (held_behind k b o st e) (drop (suc j) es) =
       h ∙ ap (onsets k b n o st) d in (
-        (let z : j + 0 ≡ j = omega arith in sym (ap (λ i. get_or os i no_onset) z) ∙ (sym (get_or-drop j os 0 no_onset) ∙ ap (λ xs. get_or xs 0 no_onset) os-is)),
-        (sym (ap (λ i. drop i os) s) ∙ (sym (drop-drop 1 j os) ∙ ap (drop 1) os-is)),
+        (let z : j + 0 ≡ j = omega arith in sym (ap (λ i. get_or os i no_onset) z) ∙ (sym (get_or-drop j os 0 no_onset) ∙ ap (λ xs. get_or xs 0 no_onset) os_is)),
+        (sym (ap (λ i. drop i os) s) ∙ (sym (drop-drop 1 j os) ∙ ap (drop 1) os_is)),
       )
 
   -- ---- how large they are

@@ -2,7 +2,7 @@
 use Rattle.std.proofs.Common.{◌≡◌, ℕ, zero, suc, ◌-◌, ◌<◌, true, ltb, List, [], ◌∷◌, length, drop, replicate, refl}
 use Rattle.std.proofs.lemmas.Bool.{and_parts, and_from, lt-ltb}
 use Rattle.score.specs.Promise.{all_below}
-use Rattle.wire.proofs.Rows.{all-below-++}
+use Rattle.wire.proofs.Rows.{all_below-++}
 use Rattle.memory.specs.Store.{padded}
 
 module _ (b : ℕ) where
@@ -19,4 +19,4 @@ module _ (b : ℕ) where
 
   pub below_padded : (n : ℕ) (xs : List ℕ) → 0 < b → all_below b xs ≡ true → all_below b (padded n xs) ≡ true
   unfolding padded
-  below_padded n xs z h = all-below-++ b xs _ h (below_zeros (n - length xs) z)
+  below_padded n xs z h = all_below-++ b xs _ h (below_zeros (n - length xs) z)

@@ -7,7 +7,7 @@ use Rattle.score.specs.Promise.{Memory, Engraver, left_by, EnoughMemory, GoodLay
 use Rattle.wire.specs.Bytes.{answer_bytes, written}
 use Rattle.wire.specs.Fits.{answer_fits}
 use Rattle.wire.proofs.Fitting.{answer_below}
-use Rattle.wire.proofs.Rows.{all-below-++}
+use Rattle.wire.proofs.Rows.{all_below-++}
 use Rattle.memory.specs.Store.{bytes_asked, stored, Kept}
 use Rattle.memory.specs.Words.{engraver_by}
 use Rattle.memory.proofs.Below.{below_drop, below_zeros}
@@ -23,7 +23,7 @@ length_written xs bs h = simp (length-append, length-drop) (omega arith)
 
 below_written : (xs bs : List ℕ) → all_below 256 xs ≡ true → all_below 256 bs ≡ true → all_below 256 (written xs bs) ≡ true
 unfolding written
-below_written xs bs h k = all-below-++ 256 xs _ h (below_drop 256 _ bs k)
+below_written xs bs h k = all_below-++ 256 xs _ h (below_drop 256 _ bs k)
 
 -- ---- over a run of calls
 

@@ -5,7 +5,7 @@ use Rattle.std.proofs.lemmas.Bool.{and_parts, and_from, lt-ltb, ltb-true}
 use Rattle.score.specs.Music.{Event, lasts, total, fine, all_fine}
 use Rattle.score.specs.Calls.{Limits, Layout, Score, all_events, none_too_long, ticks_end}
 use Rattle.score.specs.Promise.{field_end, all_below}
-use Rattle.wire.proofs.Rows.{all-below-++}
+use Rattle.wire.proofs.Rows.{all_below-++}
 use Rattle.memory.specs.Store.{words_asked, stands, alters, flat, counts, ticks, padded, laid, stored, Kept}
 use Rattle.memory.specs.Owed.{WordsFit, WordsCounted}
 use Rattle.memory.proofs.Scores.{fine_fields, fine_flat, length_flat}
@@ -54,18 +54,18 @@ fine_words e h = let f = fine_fields e h in (omega (arith, f.0), omega (arith, f
 
 below_laid : (n : ℕ) (s : Score) (rest : List ℕ) → all_events s < field_end → none_too_long s ≡ true → all_fine (flat s) ≡ true → all_below field_end rest ≡ true → all_below field_end (laid n s rest) ≡ true
 below_laid n s rest small short f h =
-    all-below-++ field_end (counts s) _ (below_counts field_end s small)
-    (all-below-++ field_end (ticks s) _ (below_ticks field_end s (omega arith) short)
-    (all-below-++ field_end _ _ (below_region n s stands (λ e h. (fine_words e h).0) f)
-    (all-below-++ field_end _ _ (below_region n s alters (λ e h. (fine_words e h).1) f)
-    (all-below-++ field_end _ rest (below_region n s lasts (λ e h. (fine_words e h).2) f) h))))
+    all_below-++ field_end (counts s) _ (below_counts field_end s small)
+    (all_below-++ field_end (ticks s) _ (below_ticks field_end s (omega arith) short)
+    (all_below-++ field_end _ _ (below_region n s stands (λ e h. (fine_words e h).0) f)
+    (all_below-++ field_end _ _ (below_region n s alters (λ e h. (fine_words e h).1) f)
+    (all_below-++ field_end _ rest (below_region n s lasts (λ e h. (fine_words e h).2) f) h))))
 
 pub words_fit : WordsFit
 unfolding stored all_below
 words_fit l y s gy gl k =
     let fit = k.fitting in
-    let voices-fit = below_laid l.events s [] (omega (arith, gl.2)) k.short (fine_flat s k.fines) refl in
+    let voices_fit = below_laid l.events s [] (omega (arith, gl.2)) k.short (fine_flat s k.fines) refl in
     and_from _ _ (lt-ltb y.in_key _ (omega (arith, gy.0)))
     (and_from _ _ (lt-ltb y.bar_long _ (omega (arith, gy.2)))
     (and_from _ _ (lt-ltb l.voices _ (omega (arith, gl.1)))
-    (and_from _ _ (lt-ltb l.events _ (omega (arith, gl.2))) voices-fit)))
+    (and_from _ _ (lt-ltb l.events _ (omega (arith, gl.2))) voices_fit)))

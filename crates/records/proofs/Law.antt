@@ -51,14 +51,14 @@ module _ (w : List ℕ) (h : Holds w) (r : Record) (rs : List Record) (a : answe
   one : (w' : List ℕ) (n : ℕ) (next : Answer) → SoManyPuts (next_words w C) rs w' n next → SoManyPuts w (r ∷ rs) w' (suc n) next
   unfolding ran puts answers answer_by
   one w' n next p =
-      let ran-of : Limits → Layout → Score → Score = λ l y s. ran l y s (puts l y s (take n rs)) in
+      let ran_of : Limits → Layout → Score → Score = λ l y s. ran l y s (puts l y s (take n rs)) in
       let told_of : Limits → Layout → Score → List Answer = λ l y s. answers l y s (puts l y s (take n rs)) in
       let rest : told_of (limits_of w) (layout_of w) (after (limits_of w) (layout_of w) (score_of w) C) ≡ replicate n done = sym (said_before told_of) ∙ p.all_done in
       record {
         few = omega (arith, p.few);
         limits = p.limits ∙ limits_next w h C;
         layout = p.layout ∙ layout_next w h C;
-        score = p.score ∙ said_before ran-of;
+        score = p.score ∙ said_before ran_of;
         all_done = ap (λ (x : Answer). x ∷ told_of (limits_of w) (layout_of w) (after (limits_of w) (layout_of w) (score_of w) C)) a ∙ ap (λ (xs : List Answer). done ∷ xs) rest;
         voices = λ v. p.voices v ∙ ap (λ (x : List Event). x ++ events_for v (take n rs)) (voices_put w h r a v)
             ∙ append_assoc (voice (score_of w) v) _ _ ∙ ap (λ (x : List Event). voice (score_of w) v ++ x) (sym (events_more v r (take n rs)));

@@ -27,33 +27,33 @@ abbrev limits : ℕ → ℕ → Limits
 limits v n = record { calls_can = whole; signs = true; voices = v; events = n }
 
 -- the words of a score tell its limits, its layout and itself
-answers-stored :
+answers_stored :
     (w : List ℕ) (v n : ℕ) (y : Layout) (s : Score) (ls : List (List ℕ)) → Kept (limits v n) s → score_words w ≡ stored (limits v n) y s
     → line_answers_in w ls ≡ line_answers (limits v n) y s ls
 unfolding stored
-answers-stored w v n y s ls k e =
+answers_stored w v n y s ls k e =
     ap (λ (x : List ℕ). line_answers (limits_of x) (layout_of x) (score_of x) ls) e
     ∙ ap (λ (t : Score). line_answers (limits v n) y t ls) (score_back (limits v n) y s k)
 
 -- lines are answered from an opening on
-pub opened-so :
+pub opened_so :
     (o : Opening) (w b w' b' : List ℕ) (ls : List (List ℕ)) → serves o ≡ true → Opened o w b w' b' → answer_lines (line_answers_in w' ls) ≡ answer_lines (opened_answers o ls)
-opened-so o w b w' b' ls h op =
+opened_so o w b w' b' ls h op =
     ap answer_lines
-    (answers-stored w' o.voices o.events (layout_for o) (empty_voices o.voices) ls (kept_empty (limits_for o)) (ap (λ (m : Memory). m.words) op.memory)
+    (answers_stored w' o.voices o.events (layout_for o) (empty_voices o.voices) ls (kept_empty (limits_for o)) (ap (λ (m : Memory). m.words) op.memory)
     ∙ sym (pick_true _ _ _ h))
 
 -- one line more, and none left
-pub line-more :
+pub line_more :
     (w b w' out spelt out' line whole : List ℕ) (ls ms : List (List ℕ)) → Ready w b → ls ≡ line ∷ ms → spelt ≡ out ++ spelled_answer (line_answer_in w (call_line line))
     → out' ≡ spelt ++ (line_end ∷ []) → score_words w' ≡ words_after w (call_line line) → out ++ answer_lines (line_answers_in w ls) ≡ whole
     → out' ++ answer_lines (line_answers_in w' ms) ≡ whole
 unfolding line_answers each
-line-more w b w' out spelt out' line whole ls ms h el es eo ew inv =
+line_more w b w' out spelt out' line whole ls ms h el es eo ew inv =
     let W : List ℕ = score_words w in
     let r : Result Call ℕ = call_line line in
     let s' : Score = after_line (limits_of W) (layout_of W) (score_of W) r in
-    ap (λ (as' : List Answer). out' ++ answer_lines as') (answers-stored w' (voices_in W) (limit_in W) (layout_of W) s' ms (kept_line (limits_of W) (layout_of W) (score_of W) r h.holds.kept) ew)
+    ap (λ (as' : List Answer). out' ++ answer_lines as') (answers_stored w' (voices_in W) (limit_in W) (layout_of W) s' ms (kept_line (limits_of W) (layout_of W) (score_of W) r h.holds.kept) ew)
     ∙ ap (λ (o : List ℕ). o ++ answer_lines (line_answers (limits_of W) (layout_of W) s' ms))
     (eo ∙ ap (λ (o : List ℕ). o ++ (line_end ∷ [])) es ∙ append_assoc out (spelled_answer (line_answer_in w r)) (line_end ∷ []))
     ∙ append_assoc out (answer_line (line_answer_in w r)) (answer_lines (line_answers (limits_of W) (layout_of W) s' ms))

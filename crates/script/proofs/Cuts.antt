@@ -36,11 +36,11 @@ cut_at xs i h free e =
     ∙ ap (λ n. take (i - 0) xs ∷ all_lines (drop n xs)) (sym (add-one i))
     ∙ ap (λ (r : List ℕ). take (i - 0) xs ∷ all_lines r) (sym (take_rest xs (i + 1)))
 
-pub cut-last :
+pub cut_last :
     (xs : List ℕ) (i : ℕ) → 0 < length xs → length xs ≤ i → NoEnd xs i
     → all_lines xs ≡ xs ∷ all_lines (take (length xs - length xs) (drop (length xs) xs))
 unfolding all_lines
-cut-last xs i h l free =
+cut_last xs i h l free =
     let z : length xs - length xs ≡ 0 = omega arith in
     line_last xs h (λ k m. free k (omega arith))
     ∙ ap (λ n. xs ∷ all_lines (take n (drop (length xs) xs))) (sym z)

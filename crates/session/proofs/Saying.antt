@@ -6,7 +6,7 @@ use Rattle.score.specs.Print.{Symbol}
 use Rattle.score.specs.Calls.{Call, show, heard_in, Answer, symbols, sounds, most_bars, widest_span, voice, together, told}
 use Rattle.wire.specs.Bytes.{symbols_head, symbols_bytes, sounds_head, sounds_bytes, answer_bytes}
 use Rattle.wire.proofs.Rows.{length_symbols, length_sounds}
-use Rattle.wire.proofs.Written.{put-before}
+use Rattle.wire.proofs.Written.{put_before}
 use Rattle.memory.specs.Store.{score_of}
 use Rattle.memory.specs.Words.{Holds, Spans, events_at, answer_at}
 use Rattle.memory.proofs.Outcomes.{show_done, heard_done}
@@ -28,7 +28,7 @@ pub headed :
 headed b b' head row last h n room e five is =
     is
     ∙ ap (λ (k : ℕ). head ++ drop k (put_mid 5 (length b - 5) b last)) five
-    ∙ put-before b head row last 5 n room e
+    ∙ put_before b head row last 5 n room e
     ∙ ap (λ (k : ℕ). (head ++ row) ++ drop (k + n) b) (sym five)
 
 -- bars of a voice that is there
@@ -47,12 +47,12 @@ module _ (w b b' : List ℕ) (v from n begin count long h : ℕ) (last : List �
   unfolding row asked
   row_is = ap (λ (es : List Event). shown (get_or w 0 0) (get_or w 1 0) es from n) sp.events
 
-  pub show-says :
+  pub show_says :
       5 ≤ length b → last ≡ shown (get_or w 0 0) (get_or w 1 0) (events_at w begin count) from n ++ drop long (take (length b - 5) (drop 5 b))
       → long ≡ length (shown (get_or w 0 0) (get_or w 1 0) (events_at w begin count) from n) → h ≡ 5
       → b' ≡ symbols_head (long / 5) ++ drop h (put_mid 5 (length b - 5) b last) → Says w b b' (show v from n) (h + long)
   unfolding row
-  show-says room e l five is =
+  show_says room e l five is =
       let wide : long ≡ 5 * length asked = l ∙ ap length row_is ∙ length_symbols asked in
       let many : long / 5 ≡ length asked = omega arith in
       let whole : symbols_head (long / 5) ++ row ≡ answer_bytes (symbols asked) =
@@ -70,12 +70,12 @@ module _ (w b b' : List ℕ) (from to count h : ℕ) (last : List ℕ) (hw : Hol
   unfolding told begun
   told_heard = (heard_done w hw from to near).said
 
-  pub hear-says :
+  pub hear_says :
       5 ≤ length b → last ≡ sounds_bytes (together (score_of w) 0 from to) ++ drop (8 * count) (take (length b - 5) (drop 5 b))
       → count ≡ length (together (score_of w) 0 from to) → h ≡ 5
       → b' ≡ sounds_head count ++ drop h (put_mid 5 (length b - 5) b last) → Says w b b' (heard_in from to) (h + 8 * count)
   unfolding begun
-  hear-says room e many five is =
+  hear_says room e many five is =
       let whole : sounds_head count ++ sounds_bytes begun ≡ answer_bytes (sounds begun) = ap (λ (k : ℕ). sounds_head k ++ sounds_bytes begun) many in
       let long : 8 * count ≡ length (sounds_bytes begun) = ap (λ (k : ℕ). 8 * k) many ∙ sym (length_sounds begun) in
       says w b b' (heard_in from to) (sounds begun) (h + 8 * count) told_heard

@@ -36,7 +36,7 @@ module _ (ps xs ds : List ℕ) (i t : ℕ) (lx : length xs ≡ length ps) (ld : 
   ticks_yet : total (Yet i) ≡ sum (drop i ds)
   ticks_yet = ap total (sym whole) ∙ ticks (length ps) ∙ ap sum (take_all (length ps) (drop i ds) (simp length-drop (omega arith)))
 
-  module _ (at start : ℕ) (at-is : at ≡ i + K) (start_is : start ≡ t + sum (take K (drop i ds))) where
+  module _ (at start : ℕ) (at_is : at ≡ i + K) (start_is : start ≡ t + sum (take K (drop i ds))) where
     nothing_yet : length ps ≤ at → heard (Yet i) t ≡ []
     nothing_yet l =
         elim (coming (drop i ps) (drop i xs) (drop i ds) (length ps) t) [
@@ -59,7 +59,7 @@ module _ (ps xs ds : List ℕ) (i t : ℕ) (lx : length xs ≡ length ps) (ld : 
       rest = voice_drop (suc K) (drop i ps) (drop i xs) (drop i ds) ∙ rw (later ps, later xs, later ds)
 
       word : (ws : List ℕ) → get_or (drop i ws) K 0 ≡ get_or ws at 0
-      word ws = get_or-drop i ws K 0 ∙ ap (λ (j : ℕ). get_or ws j 0) (sym at-is)
+      word ws = get_or-drop i ws K 0 ∙ ap (λ (j : ℕ). get_or ws j 0) (sym at_is)
 
       -- the ticks up to behind the note
       behind : t + total (take (suc K) (Yet i)) ≡ start + get_or ds at 0
@@ -81,8 +81,8 @@ module _ (ps xs ds : List ℕ) (i t : ℕ) (lx : length xs ≡ length ps) (ld : 
 
       total_yet : start + get_or ds at 0 + total (Yet (at + 1)) ≡ t + total (Yet i)
       total_yet =
-          let whole-total : total (take (suc K) (Yet i)) + total (drop (suc K) (Yet i)) ≡ total (Yet i) = sym (total-++ (take (suc K) (Yet i)) (drop (suc K) (Yet i))) ∙ ap total (take-append-drop (suc K) (Yet i)) in
-          omega (arith, whole-total, behind, ap total rest)
+          let whole_total : total (take (suc K) (Yet i)) + total (drop (suc K) (Yet i)) ≡ total (Yet i) = sym (total-++ (take (suc K) (Yet i)) (drop (suc K) (Yet i))) ∙ ap total (take-append-drop (suc K) (Yet i)) in
+          omega (arith, whole_total, behind, ap total rest)
 
       module _ (fines : all_fine (Yet i) ≡ true) where
         fields_yet : (get_or ps at 0 < places) × (get_or xs at 0 < alterations) × (get_or ds at 0 < length_end)
@@ -99,9 +99,9 @@ module _ (n : Notes) (p : Playable n) where
   pub yet_short : n.tick + sum (drop n.index n.lengths.now) < ticks_end
   yet_short = omega (arith, p.short, ticks_yet n.places.now n.alterations.now n.lengths.now n.index n.tick p.alterations_too p.lengths_too)
 
-  module _ (at start : ℕ) (at-is : at ≡ n.index + silences (drop n.index n.places.now)) (start_is : start ≡ n.tick + sum (take (silences (drop n.index n.places.now)) (drop n.index n.lengths.now))) where
+  module _ (at start : ℕ) (at_is : at ≡ n.index + silences (drop n.index n.places.now)) (start_is : start ≡ n.tick + sum (take (silences (drop n.index n.places.now)) (drop n.index n.lengths.now))) where
     pub over : length n.places.now ≤ at → heard_yet n ≡ []
-    over = nothing_yet n.places.now n.alterations.now n.lengths.now n.index n.tick p.alterations_too p.lengths_too at start at-is start_is
+    over = nothing_yet n.places.now n.alterations.now n.lengths.now n.index n.tick p.alterations_too p.lengths_too at start at_is start_is
 
     abbrev pub Then : Notes
     Then = record { voice = n.voice; places = n.places; alterations = n.alterations; lengths = n.lengths; index = at + 1; tick = start + get_or n.lengths.now at 0 }
@@ -115,30 +115,30 @@ module _ (n : Notes) (p : Playable n) where
 
     pub stepped : at < length n.places.now → Stepped
     stepped here =
-        let f = fields_yet n.places.now n.alterations.now n.lengths.now n.index n.tick p.alterations_too p.lengths_too at start at-is start_is here p.fines in
-        let t = total_yet n.places.now n.alterations.now n.lengths.now n.index n.tick p.alterations_too p.lengths_too at start at-is start_is here in
+        let f = fields_yet n.places.now n.alterations.now n.lengths.now n.index n.tick p.alterations_too p.lengths_too at start at_is start_is here p.fines in
+        let t = total_yet n.places.now n.alterations.now n.lengths.now n.index n.tick p.alterations_too p.lengths_too at start at_is start_is here in
         record {
           place = f.0;
           alteration = f.1;
           length_fits = f.2;
           heard_first = λ high q.
-              first_yet n.places.now n.alterations.now n.lengths.now n.index n.tick p.alterations_too p.lengths_too at start at-is start_is here
+              first_yet n.places.now n.alterations.now n.lengths.now n.index n.tick p.alterations_too p.lengths_too at start at_is start_is here
               ∙ ap (λ (h : ℕ). record { start = start; long = get_or n.lengths.now at 0; high = h } ∷ heard_yet Then) (sym q);
           playable = record {
             alterations_too = p.alterations_too;
             lengths_too = p.lengths_too;
-            fines = fines_yet n.places.now n.alterations.now n.lengths.now n.index n.tick p.alterations_too p.lengths_too at start at-is start_is here p.fines;
+            fines = fines_yet n.places.now n.alterations.now n.lengths.now n.index n.tick p.alterations_too p.lengths_too at start at_is start_is here p.fines;
             short = omega (arith, t, p.short);
           };
         }
 
 -- the notes of a voice of words that hold a score, before the first
-pub from-words :
+pub from_words :
     {w : List ℕ} {v begin count : ℕ} (n : Notes) (p q r : ℕ) → Holds w → Spans w v begin count → p ≡ places_from w → q ≡ alterations_from w → r ≡ lengths_from w
     → n.places.now ≡ take (p + begin + count - (p + begin)) (drop (p + begin) w) → n.alterations.now ≡ take (q + begin + count - (q + begin)) (drop (q + begin) w)
     → n.lengths.now ≡ take (r + begin + count - (r + begin)) (drop (r + begin) w) → n.index ≡ 0 → n.tick ≡ 0
     → Playable n × (heard_yet n ≡ heard (voice (score_of w) v) 0)
-from-words {w} {v} {begin} {count} n p q r h s ps qs rs a b d i t =
+from_words {w} {v} {begin} {count} n p q r h s ps qs rs a b d i t =
     let z = h.size in
     let within = s.within in
     let x : n.places.now ≡ take count (drop (places_from w + begin) w) = a ∙ part p (places_from w) ps in

@@ -9,7 +9,7 @@ use Rattle.laws.proofs.Events.{total_three}
 use Rattle.memory.proofs.Scores.{fines_voice, fine_parts, short_voice}
 use Rattle.sounds.specs.Spans.{from_event, until, starts, mixed, passed, note_ticks, ticks_from, grain, bit, begun, marks, score_in, Laid, left, Ready, all_left}
 use Rattle.sounds.proofs.Bits.{bit_zero, bit_two}
-use Rattle.sounds.proofs.Slots.{Free, Rising, begun_none, marks_other, marks-same}
+use Rattle.sounds.proofs.Slots.{Free, Rising, begun_none, marks_other, marks_same}
 use Rattle.sounds.proofs.Turns.{begun_later, begun_here}
 use Rattle.sounds.proofs.Mixed.{mixed_same, together_mixed}
 use Rattle.sounds.proofs.Parts.{voice_drop, voice_take, lasts_voice, total_sum, voice_dealt, begins_passed, starts_until, rising_starts, rising_later, length_dealt}
@@ -42,7 +42,7 @@ pub record Marked (ns ps xs ds : List ℕ) (first e : ℕ) (cursors ms : List �
   pub free : (u : ℕ) → k ≤ u → begun u (grain * first) ms ≡ []
 
 -- One voice more: the words of its events stand in the rows from `begin` up to before `end`; it passes over r of them, which have so many ticks.
-module _ (ns ps xs ds : List ℕ) (first E : ℕ) (laid : Laid ns ps xs ds) (cursors ms : List ℕ) (k begin end : ℕ) (there : k < length ns) (begins-at : begin ≡ sum (take k ns)) (ends_at : end ≡ begin + get_or ns k 0) where
+module _ (ns ps xs ds : List ℕ) (first E : ℕ) (laid : Laid ns ps xs ds) (cursors ms : List ℕ) (k begin end : ℕ) (there : k < length ns) (begins_at : begin ≡ sum (take k ns)) (ends_at : end ≡ begin + get_or ns k 0) where
   abbrev Es : List Event
   Es = voice (score_in ns ps xs ds) k
 
@@ -53,7 +53,7 @@ module _ (ns ps xs ds : List ℕ) (first E : ℕ) (laid : Laid ns ps xs ds) (cur
   in_rows =
       let n : get_or ns k 0 ≡ end - begin = omega arith in
       voice_dealt ns (voice_of ps xs ds) k
-      ∙ ap (λ (i : ℕ). take i (drop (sum (take k ns)) (voice_of ps xs ds))) n ∙ ap (λ (i : ℕ). take (end - begin) (drop i (voice_of ps xs ds))) (sym begins-at)
+      ∙ ap (λ (i : ℕ). take i (drop (sum (take k ns)) (voice_of ps xs ds))) n ∙ ap (λ (i : ℕ). take (end - begin) (drop i (voice_of ps xs ds))) (sym begins_at)
       ∙ ap (take (end - begin)) (voice_drop begin ps xs ds) ∙ voice_take (end - begin) (drop begin ps) (drop begin xs) (drop begin ds)
 
   same_long : (ws : List ℕ) → length ws ≡ length ps → length (part ws) ≡ length (part ps)
@@ -129,7 +129,7 @@ module _ (ns ps xs ds : List ℕ) (first E : ℕ) (laid : Laid ns ps xs ds) (cur
         own_slots =
             let none = before.free k (omega arith) in
             let zeroth : grain * first ≡ grain * (first + 0) = omega arith in
-            marks-same k first 0 Ticks ms (begun_free k (grain * first) ms none) (subst (λ (n : ℕ). Rising n (grain * (first + length ms)) Ticks) zeroth (subst (λ (n : ℕ). Rising (grain * first) n Ticks) ends ticks_rise))
+            marks_same k first 0 Ticks ms (begun_free k (grain * first) ms none) (subst (λ (n : ℕ). Rising n (grain * (first + length ms)) Ticks) zeroth (subst (λ (n : ℕ). Rising (grain * first) n Ticks) ends ticks_rise))
             ∙ ap (λ (ts : List ℕ). ts ++ Ticks) none
 
         -- what holds of voice k, and of those before it, holds of all
@@ -161,10 +161,10 @@ pub marked_step :
     → (r < length (take (end - begin) (drop begin ds)) → grain * first ≤ sum (take r (take (end - begin) (drop begin ds))))
     → slots ≡ marks k first (ticks_from (grain * (first + length ms)) (take (end - begin) (drop begin ps)) (take (end - begin) (drop begin ds)) r) ms
     → Marked ns ps xs ds first (grain * (first + n)) (set cursors k (begin + r)) slots (k + 1)
-marked_step {ns} {ps} {xs} {ds} {first} {n} {cursors} {ms} {k} {begin} end r slots laid there begins-at ends_at room long before passes reaches done =
+marked_step {ns} {ps} {xs} {ds} {first} {n} {cursors} {ms} {k} {begin} end r slots laid there begins_at ends_at room long before passes reaches done =
     subst (λ (i : ℕ). Marked ns ps xs ds first (grain * (first + i)) (set cursors k (begin + r)) slots (k + 1)) long
     (subst (λ (ws : List ℕ). Marked ns ps xs ds first (grain * (first + length ms)) (set cursors k (begin + r)) ws (k + 1)) (sym done)
-    (marked_more ns ps xs ds first (grain * (first + length ms)) laid cursors ms k begin end there begins-at ends_at r passes reaches refl room
+    (marked_more ns ps xs ds first (grain * (first + length ms)) laid cursors ms k begin end there begins_at ends_at r passes reaches refl room
     (subst (λ (i : ℕ). Marked ns ps xs ds first (grain * (first + i)) cursors ms k) (sym long) before)))
 
 -- ---- before the first voice, and after the last

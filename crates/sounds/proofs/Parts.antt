@@ -243,11 +243,11 @@ pub record Silent (es : List Event) (k t : ℕ) : Type 0 where
   pub all_passed : length es ≤ k
   pub nothing : heard es t ≡ []
 
-coming-step :
+coming_step :
     (p x d : ℕ) (ps xs ds : List ℕ) (es : List Event) (k t : ℕ) (b : Bool) → Coming es ps xs ds k (t + d) ⊎ Silent es k (t + d)
     → Coming (pick b (silence d) (note p x d) ∷ es) (p ∷ ps) (x ∷ xs) (d ∷ ds) (pick b (suc k) 0) t ⊎ Silent (pick b (silence d) (note p x d) ∷ es) (pick b (suc k) 0) t
 unfolding heard total lasts
-coming-step p x d ps xs ds es k t true (inl c) =
+coming_step p x d ps xs ds es k t true (inl c) =
     let a : t + d + total (take k es) ≡ t + (d + total (take k es)) = omega arith in
     let b : t + d + total (take (suc k) es) ≡ t + (d + total (take (suc k) es)) = omega arith in
     inl record {
@@ -257,8 +257,8 @@ coming-step p x d ps xs ds es k t true (inl c) =
           c.first ∙ ap (λ (n : ℕ). sound_at ps xs ds k n ∷ heard (drop (suc k) es) (t + d + total (take (suc k) es))) a
           ∙ ap (λ (n : ℕ). sound_at ps xs ds k (t + (d + total (take k es))) ∷ heard (drop (suc k) es) n) b;
     }
-coming-step p x d ps xs ds es k t true (inr s) = inr record { all_passed = omega (arith, s.all_passed); nothing = s.nothing }
-coming-step p x d ps xs ds es k t false r =
+coming_step p x d ps xs ds es k t true (inr s) = inr record { all_passed = omega (arith, s.all_passed); nothing = s.nothing }
+coming_step p x d ps xs ds es k t false r =
     let a : t ≡ t + 0 = omega arith in
     let b : t + d ≡ t + (d + 0) = omega arith in
     inl record {
@@ -273,7 +273,7 @@ coming ps xs ds zero t = inr record { all_passed = omega arith; nothing = refl }
 coming [] xs ds (suc n) t = inr record { all_passed = omega arith; nothing = refl }
 coming (p ∷ ps) [] ds (suc n) t = inr record { all_passed = omega arith; nothing = refl }
 coming (p ∷ ps) (x ∷ xs) [] (suc n) t = inr record { all_passed = omega arith; nothing = refl }
-coming (p ∷ ps) (x ∷ xs) (d ∷ ds) (suc n) t = coming-step p x d ps xs ds (take n (voice_of ps xs ds)) (silences ps) t (eqb p places) (coming ps xs ds n (t + d))
+coming (p ∷ ps) (x ∷ xs) (d ∷ ds) (suc n) t = coming_step p x d ps xs ds (take n (voice_of ps xs ds)) (silences ps) t (eqb p places) (coming ps xs ds n (t + d))
 
 -- the same of what begins before tick e, of voice u
 pub record Next (es : List Event) (ps xs ds : List ℕ) (k t u e : ℕ) (y : ℕ × Heard) (ys : Row) : Type 0 where
@@ -293,11 +293,11 @@ until_first u e h hs y ys q =
       | inr l ↦ no_note y ys (sym (pick_false (ltb h.start e) _ _ (le-ltb _ _ l)) ∙ q)
     ]
 
-pub next-heard :
+pub next_heard :
     (ps xs ds : List ℕ) (n t u e : ℕ) (y : ℕ × Heard) (ys : Row) → until u e (heard (take n (voice_of ps xs ds)) t) ≡ y ∷ ys
     → Next (take n (voice_of ps xs ds)) ps xs ds (silences ps) t u e y ys
 unfolding until
-next-heard ps xs ds n t u e y ys h =
+next_heard ps xs ds n t u e y ys h =
     elim (coming ps xs ds n t) [
       | inl c ↦
           let f = until_first u e _ _ y ys (ap (until u e) (sym c.first) ∙ h) in

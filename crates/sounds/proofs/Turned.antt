@@ -10,7 +10,7 @@ use Rattle.memory.proofs.Scores.{fine_at, fines_voice, fine_parts}
 use Rattle.sounds.specs.Spans.{Row, from_event, until, silences, grain, begun, sound_at, score_in, Laid, left, Ready, all_left}
 use Rattle.sounds.proofs.Bits.{Lowest}
 use Rattle.sounds.proofs.Turns.{First, turn_first, turn_mixed, turn_begin}
-use Rattle.sounds.proofs.Parts.{voice_drop, length_voice, voice_dealt, length_dealt, drop_take_sub, total_take, note_fields, Next, next-heard}
+use Rattle.sounds.proofs.Parts.{voice_drop, length_voice, voice_dealt, length_dealt, drop_take_sub, total_take, note_fields, Next, next_heard}
 
 from_later : (es : List Event) (u e i k : ℕ) → until u e (heard (drop (suc k) (drop i es)) (total (take i es) + total (take (suc k) (drop i es)))) ≡ until u e (from_event es (i + suc k))
 from_later es u e i k =
@@ -82,7 +82,7 @@ module _ (ns ps xs ds : List ℕ) (e : ℕ) (cursors : List ℕ) (t m v : ℕ) (
 
     coming : Next Left (drop Cur ps) (drop Cur xs) (drop Cur ds) K (total (take I Es)) v e first.note first.rest
     coming =
-        next-heard (drop Cur ps) (drop Cur xs) (drop Cur ds) (get_or ns v 0 - I) (total (take I Es)) v e first.note first.rest
+        next_heard (drop Cur ps) (drop Cur xs) (drop Cur ds) (get_or ns v 0 - I) (total (take I Es)) v e first.note first.rest
         (ap (λ (es : List Event). until v e (heard es (total (take I Es)))) (sym rows_left) ∙ first.is)
 
     in_rows_left : At < length ps

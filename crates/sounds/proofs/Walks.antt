@@ -63,10 +63,10 @@ unfolding marks
 marks_none v first ts ms e = ap (λ (xs : List ℕ). marks v first xs ms) e
 
 -- the slots as the code marks them from the r-th event on
-pub marks-rest :
+pub marks_rest :
     (v first e tick r : ℕ) (ps ds ms slots : List ℕ) → slots ≡ marks v first (note_ticks e tick (take (length ps - r) (drop r ps)) (take (length ds - r) (drop r ds))) ms → tick ≡ sum (take r ds)
     → slots ≡ marks v first (ticks_from e ps ds r) ms
-marks-rest v first e tick r ps ds ms slots h t = let p = take_rest ps r in let d = take_rest ds r in cc
+marks_rest v first e tick r ps ds ms slots h t = let p = take_rest ps r in let d = take_rest ds r in cc
 
 -- ---- silences that come first
 
@@ -85,11 +85,11 @@ unfolding silences
 silences_all i ps h = ap silences (drop_all i ps h)
 
 -- and how long they are
-pub silent-more :
+pub silent_more :
     (i : ℕ) (ps ds : List ℕ) → i < length ps → i < length ds → get_or ps i 0 ≡ places
     → sum (take (silences (drop i ps)) (drop i ds)) ≡ get_or ds i 0 + sum (take (silences (drop (i + 1) ps)) (drop (i + 1) ds))
 unfolding silences
-silent-more i ps ds l m q =
+silent_more i ps ds l m q =
     let e : silences (drop i ps) ≡ suc (silences (drop (i + 1) ps)) = ap silences (drop_more ps i 0 l) ∙ pick_true (eqb (get_or ps i 0) places) _ _ (eq-eqb _ _ q) in
     ap (λ (n : ℕ). sum (take n (drop i ds))) e ∙ ap (λ (xs : List ℕ). sum (take (suc (silences (drop (i + 1) ps))) xs)) (drop_more ds i 0 m) ∙ sum_by-cons (λ x. x) (get_or ds i 0) (take (silences (drop (i + 1) ps)) (drop (i + 1) ds))
 

@@ -25,21 +25,21 @@ module _ {ns ps xs ds : List ℕ} {e : ℕ} where
   writing_start r = record { ready = r; front = refl; back = refl; more = omega arith; many = refl }
 
   -- while the slot has bits, the lowest says whose turn it is
-  pub writing-next :
+  pub writing_next :
       {start came : List ℕ} {from : ℕ} {cursors out : List ℕ} {count t m : ℕ} {ms : List ℕ} → Laid ns ps xs ds → length ns ≤ length cursors
       → Writing ns ps xs ds e start came from cursors out count t (m ∷ ms) → (m ≡ 0 → ⊥) → m < 2 ^ 64
       → (at : ℕ) → at ≡ get_or cursors (count_trailing_zeros 64 m) 0 + silences (drop (get_or cursors (count_trailing_zeros 64 m) 0) ps) → Turned ns ps xs ds e cursors t m (count_trailing_zeros 64 m) ms at
-  writing-next {start} {came} {from} {cursors} {out} {count} {t} {m} {ms} l room w ne h at q =
+  writing_next {start} {came} {from} {cursors} {out} {count} {t} {m} {ms} l room w ne h at q =
       turned ns ps xs ds e cursors t m (count_trailing_zeros 64 m) ms l room w.ready (trailing_lowest 64 m (omega arith) h) at q
 
   -- a note is written behind those that are there
-  pub writing-turn :
+  pub writing_turn :
       {start came : List ℕ} {from : ℕ} {cursors out : List ℕ} {count t m : ℕ} {ms : List ℕ} {v at : ℕ} (last : List ℕ) → Writing ns ps xs ds e start came from cursors out count t (m ∷ ms)
       → Turned ns ps xs ds e cursors t m v ms at → 8 * count ≤ length out
       → last ≡ sound_bytes (v, sound_at ps xs ds at t) ++ drop 8 (take (length out - 8 * count) (drop (8 * count) out))
       → Writing ns ps xs ds e start came from (set cursors v (at + 1)) (put_mid (8 * count) (length out - 8 * count) out last) (count + 1) t (bit_xor m (2 ^ v) ∷ ms)
   unfolding each
-  writing-turn {start} {came} {from} {cursors} {out} {count} {t} {m} {ms} {v} {at} last w n h l =
+  writing_turn {start} {came} {from} {cursors} {out} {count} {t} {m} {ms} {v} {at} last w n h l =
       let y : ℕ × Heard = (v, sound_at ps xs ds at t) in
       let next : List ℕ = set cursors v (at + 1) in
       let eight : 8 * (count + 1) ≡ 8 * count + 8 = omega arith in
@@ -62,18 +62,18 @@ module _ {ns ps xs ds : List ℕ} {e : ℕ} where
       }
 
   -- there is room for it
-  pub writing-room :
+  pub writing_room :
       {start came : List ℕ} {was out : List ℕ} {begun cursors : List ℕ} {before count t s m : ℕ} {ms ls : List ℕ} {v at : ℕ} (n : ℕ)
       → Writing ns ps xs ds e start came 0 begun was before s ls → Writing ns ps xs ds e begun was before cursors out count t (m ∷ ms) → Turned ns ps xs ds e cursors t m v ms at
       → 8 * length (all_left ns ps xs ds e start) ≤ n → 8 * count + 8 ≤ n
-  writing-room n w i u h = let g = ap length u.next in omega (arith, w.many, i.many, g, h)
+  writing_room n w i u h = let g = ap length u.next in omega (arith, w.many, i.many, g, h)
 
   -- after the last voice of a slot comes the next slot
-  pub writing-slot :
+  pub writing_slot :
       {start came : List ℕ} {was out : List ℕ} {begun cursors : List ℕ} {before count t s m : ℕ} {ms ls : List ℕ} (r : ℕ)
       → Writing ns ps xs ds e start came 0 begun was before s ls → Writing ns ps xs ds e begun was before cursors out count t (m ∷ ms) → m ≡ 0 → t + grain ≡ r
       → Writing ns ps xs ds e start came 0 cursors out count r ms
-  writing-slot {start} {came} {was} {out} {begun} {cursors} {before} {count} {t} {s} {m} {ms} r w i z q =
+  writing_slot {start} {came} {was} {out} {begun} {cursors} {before} {count} {t} {s} {m} {ms} r w i z q =
       let b : Begin (left ns ps xs ds e cursors) r ms = subst (λ (k : ℕ). Begin (left ns ps xs ds e cursors) k ms) q (begin_later _ t m ms z i.ready.begin) in
       let d : 8 * before + 8 * (count - before) ≡ 8 * count = omega (arith, i.more) in
       record {

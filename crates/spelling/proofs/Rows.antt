@@ -19,19 +19,19 @@ row_more {A = A} f lead between out led spelt whole xs i x h is l s e =
     rest : List ℕ
     rest = spelled_row f between between (drop (i + 1) xs)
 
-pub row-over :
+pub row_over :
     {A : Type 0} (f : A → List ℕ) (lead between out whole : List ℕ) (xs : List A) (i : ℕ)
     → length xs ≤ i → out ++ spelled_row f lead between (drop i xs) ≡ whole → out ≡ whole
 unfolding spelled_row
-row-over {A = A} f lead between out whole xs i h e = sym (append-nil out) ∙ sym (at_drop_all (λ (ys : List A). out ++ spelled_row f lead between ys) xs i h) ∙ e
+row_over {A = A} f lead between out whole xs i h e = sym (append-nil out) ∙ sym (at_drop_all (λ (ys : List A). out ++ spelled_row f lead between ys) xs i h) ∙ e
 
 -- a row of what the code has is the row of what it means
-pub row-meant :
+pub row_meant :
     {A B : Type 0} (f : B → List ℕ) (g : A → B) (lead between : List ℕ) (xs : List A)
     → spelled_row (λ x. f (g x)) lead between xs ≡ spelled_row f lead between (map g xs)
 unfolding spelled_row
-row-meant f g lead between [] = refl
-row-meant f g lead between (x ∷ xs) = ap (λ (r : List ℕ). lead ++ (f (g x) ++ r)) (row-meant f g between between xs)
+row_meant f g lead between [] = refl
+row_meant f g lead between (x ∷ xs) = ap (λ (r : List ℕ). lead ++ (f (g x) ++ r)) (row_meant f g between between xs)
 
 pub retold : {A E : Type 0} (r : Result A E) (now was old new : List ℕ) → old ≡ new → IfOk r (λ _. now ≡ was ++ old) → IfOk r (λ _. now ≡ was ++ new)
 retold r now was old new e h = subst (λ (x : List ℕ). IfOk r (λ _. now ≡ was ++ x)) e h

@@ -8,7 +8,7 @@ use Rattle.wire.specs.Bytes.{four, event_bytes, call_bytes}
 use Rattle.wire.specs.ReadingCalls.{read_call}
 use Rattle.wire.specs.Faithful.{with_any, CallsBack}
 use Rattle.wire.proofs.Numbers.{of_two_two, of_four_four}
-use Rattle.wire.proofs.Rows.{all_below_none, all_below_more, all-below-++, four_below, five_below}
+use Rattle.wire.proofs.Rows.{all_below_none, all_below_more, all_below-++, four_below, five_below}
 
 pub any_back : (c : Call) (x y : ℕ) → read_call (with_any x y c (call_bytes c)) ≡ Ok c
 any_back (put v i (note p a d)) x y = cc (of_four_four v, of_four_four i, of_two_two d)
@@ -40,7 +40,7 @@ event_below (note p a d) f =
 event_below (silence d) f = five_below 1 0 0 d (omega arith) refl refl f
 
 placed_below : (k v i : ℕ) (bs : List ℕ) → k < 256 → field v ≡ true → field i ≡ true → all_below 256 bs ≡ true → all_below 256 (k ∷ (four v ++ (four i ++ bs))) ≡ true
-placed_below k v i bs h f g p = all_below_more 256 k _ h (all-below-++ 256 (four v) _ (four_below v f) (all-below-++ 256 (four i) bs (four_below i g) p))
+placed_below k v i bs h f g p = all_below_more 256 k _ h (all_below-++ 256 (four v) _ (four_below v f) (all_below-++ 256 (four i) bs (four_below i g) p))
 
 pub call_below : (c : Call) → readable c ≡ true → all_below 256 (call_bytes c) ≡ true
 unfolding readable

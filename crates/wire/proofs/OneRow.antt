@@ -55,10 +55,10 @@ record FourRead {A : Type 0} (f : ℕ → ℕ → ℕ → ℕ → A) (bs : List 
   row : bs ≡ a ∷ (b ∷ (c ∷ (d ∷ rest)))
   below : all_below 256 rest ≡ true
 
-made-read :
+made_read :
     {A : Type 0} (f : ℕ → ℕ → ℕ → ℕ → A) (n : ℕ) (bs : List ℕ) (x : A × List ℕ) → all_below 256 bs ≡ true
     → then (four_at n bs) (λ q. Ok (f q.0 q.1 q.2 q.3, q.4)) ≡ Ok x → FourRead f bs x.0 x.1
-made-read f n bs x h p =
+made_read f n bs x h p =
     let t = then_read (four_at n bs) (λ q. Ok (f q.0 q.1 q.2 q.3, q.4)) x p in
     let q = t.0 in
     let made : x.0 ≡ f q.0 q.1 q.2 q.3 = cc t.2 in
@@ -90,7 +90,7 @@ record FieldRead (bs : List ℕ) (v : ℕ) (rest : List ℕ) : Type 0 where
 
 field_read : (n : ℕ) (bs : List ℕ) (x : ℕ × List ℕ) → all_below 256 bs ≡ true → field_at n bs ≡ Ok x → FieldRead bs x.0 x.1
 field_read n bs x h p =
-    let t = made-read of_four n bs x h p in
+    let t = made_read of_four n bs x h p in
     let o = four_of t.a t.b t.c t.d t.a_below t.b_below t.c_below t.d_below in
     record {
       row = t.row ∙ ap (λ f. f ++ x.1) (sym o.0) ∙ ap (λ n. four n ++ x.1) (sym t.made);
@@ -114,7 +114,7 @@ note_read : (n : ℕ) (bs : List ℕ) (x : Event × List ℕ) → all_below 256 
 unfolding readable_event
 note_read n bs x h p =
     let f : ℕ → ℕ → ℕ → ℕ → Event = λ p a l h. note p a (of_two l h) in
-    let t = made-read f n bs x h p in
+    let t = made_read f n bs x h p in
     let o = two_of t.c t.d t.c_below t.d_below in
     subst (λ e. EventRead (0 ∷ bs) e x.1) (sym t.made)
     record {
@@ -129,7 +129,7 @@ silence_read : (n : ℕ) (bs : List ℕ) (x : Event × List ℕ) → all_below 2
 unfolding readable_event
 silence_read n bs x h p =
     let f : ℕ → ℕ → ℕ → ℕ → Event = λ p a l h. silence (of_two l h) in
-    let t = made-read f n bs x h p in
+    let t = made_read f n bs x h p in
     let o = two_of t.c t.d t.c_below t.d_below in
     subst (λ e. EventRead (1 ∷ bs) e x.1) (sym t.made)
     record {
@@ -169,10 +169,10 @@ record PlacedRead {A : Type 0} (k : ℕ → ℕ → List ℕ → Result A Answer
   below : all_below 256 rest ≡ true
   then_so : k v i rest ≡ Ok x
 
-placed-read :
+placed_read :
     {A : Type 0} (k : ℕ → ℕ → List ℕ → Result A Answer) (bs : List ℕ) (x : A) → all_below 256 bs ≡ true
     → then (field_at 1 bs) (λ v. then (field_at 5 v.1) (λ i. k v.0 i.0 i.1)) ≡ Ok x → PlacedRead k bs x
-placed-read k bs x h p =
+placed_read k bs x h p =
     let s = then_read (field_at 1 bs) (λ v. then (field_at 5 v.1) (λ i. k v.0 i.0 i.1)) x p in
     let f = field_read 1 bs s.0 h s.1 in
     let t = then_read (field_at 5 s.0.1) (λ i. k s.0.0 i.0 i.1) x s.2 in
@@ -190,16 +190,16 @@ placed-read k bs x h p =
 
 two_read : (bs : List ℕ) (x : ℕ × ℕ) → all_below 256 bs ≡ true → two_fields bs ≡ Ok x → (bs ≡ four x.0 ++ four x.1) × (field x.0 ≡ true) × (field x.1 ≡ true)
 two_read bs x h p =
-    let t = placed-read (λ v i r. end_at 9 r (v, i)) bs x h p in
+    let t = placed_read (λ v i r. end_at 9 r (v, i)) bs x h p in
     let e = end_read 9 t.rest (t.v, t.i) x t.then_so in
     subst (λ z. (bs ≡ four z.0 ++ four z.1) × (field z.0 ≡ true) × (field z.1 ≡ true)) e.1
     (t.row ∙ ap (λ r. four t.v ++ (four t.i ++ r)) e.0, t.v_fits, t.i_fits)
 
-three-read :
+three_read :
     (bs : List ℕ) (x : ℕ × ℕ × ℕ) → all_below 256 bs ≡ true → three_fields bs ≡ Ok x
     → (bs ≡ four x.0 ++ (four x.1 ++ four x.2)) × (field x.0 ≡ true) × (field x.1 ≡ true) × (field x.2 ≡ true)
-three-read bs x h p =
-    let t = placed-read (λ v b r. then (field_at 9 r) (λ n. end_at 13 n.1 (v, b, n.0))) bs x h p in
+three_read bs x h p =
+    let t = placed_read (λ v b r. then (field_at 9 r) (λ n. end_at 13 n.1 (v, b, n.0))) bs x h p in
     let s = then_read (field_at 9 t.rest) (λ n. end_at 13 n.1 (t.v, t.i, n.0)) x t.then_so in
     let f = field_read 9 t.rest s.0 t.below s.1 in
     let e = end_read 13 s.0.1 (t.v, t.i, s.0.0) x s.2 in
@@ -207,9 +207,9 @@ three-read bs x h p =
     (t.row ∙ ap (λ r. four t.v ++ (four t.i ++ r)) (f.row ∙ ap (λ r. four s.0.0 ++ r) e.0), t.v_fits, t.i_fits, f.fits)
 
 -- two numbers, what follows them, and nothing more
-nothing-behind :
+nothing_behind :
     (bs rest front left : List ℕ) (v i : ℕ) → bs ≡ four v ++ (four i ++ rest) → rest ≡ front ++ left → left ≡ [] → bs ≡ four v ++ (four i ++ front)
-nothing-behind bs rest front left v i p q e = p ∙ ap (λ r. four v ++ (four i ++ r)) (q ∙ ap (λ l. front ++ l) e ∙ append-nil front)
+nothing_behind bs rest front left v i p q e = p ∙ ap (λ r. four v ++ (four i ++ r)) (q ∙ ap (λ l. front ++ l) e ∙ append-nil front)
 
 record PlacedEvent (bs : List ℕ) (z : ℕ × ℕ × Event) : Type 0 where
   x : ℕ
@@ -221,7 +221,7 @@ record PlacedEvent (bs : List ℕ) (z : ℕ × ℕ × Event) : Type 0 where
 
 placed_event_read : (bs : List ℕ) (z : ℕ × ℕ × Event) → all_below 256 bs ≡ true → fields_and_event bs ≡ Ok z → PlacedEvent bs z
 placed_event_read bs z h p =
-    let t = placed-read (λ v i r. then (event_at 9 r) (λ e. end_at 14 e.1 (v, i, e.0))) bs z h p in
+    let t = placed_read (λ v i r. then (event_at 9 r) (λ e. end_at 14 e.1 (v, i, e.0))) bs z h p in
     let s = then_read (event_at 9 t.rest) (λ e. end_at 14 e.1 (t.v, t.i, e.0)) z t.then_so in
     let f = event_read 9 t.rest s.0 t.below s.1 in
     let e = end_read 14 s.0.1 (t.v, t.i, s.0.0) z s.2 in
@@ -229,7 +229,7 @@ placed_event_read bs z h p =
     record {
       x = f.x;
       y = f.y;
-      row = nothing-behind bs t.rest (event_with f.x f.y s.0.0) s.0.1 t.v t.i t.row f.row e.0;
+      row = nothing_behind bs t.rest (event_with f.x f.y s.0.0) s.0.1 t.v t.i t.row f.row e.0;
       v_fits = t.v_fits;
       i_fits = t.i_fits;
       e_fits = f.fits;
@@ -254,7 +254,7 @@ two_fit bs x h p = let t = two_read bs x h p in (t.0, and_from _ _ t.1 t.2)
 
 show_row : (bs : List ℕ) (x : ℕ × ℕ × ℕ) → all_below 256 bs ≡ true → three_fields bs ≡ Ok x → ItsRow (3 ∷ bs) (show x.0 x.1 x.2)
 unfolding readable
-show_row bs x h p = let t = three-read bs x h p in (and_from _ _ t.1 (and_from _ _ t.2 t.3), (0, 0, ap (λ r. 3 ∷ r) t.0))
+show_row bs x h p = let t = three_read bs x h p in (and_from _ _ t.1 (and_from _ _ t.2 t.3), (0, 0, ap (λ r. 3 ∷ r) t.0))
 
 -- a call of number m, by what follows the number, or another
 or_else :

@@ -135,10 +135,10 @@ module _ {A B : Type 0} (n : ℕ) (r : List ℕ → Result A Answer) (f : A → 
           }
 
 -- a byte is this one, or another
-this-or-else :
+this_or_else :
     {A : Type 0} {n : ℕ} (by : ℕ → List ℕ → Result A Answer) (b m : ℕ) → FailsRightly (n + 1) (by m)
     → (eqb b m ≡ false → Known n by b) → Known n by b
-this-or-else {n = n} by b m here there =
+this_or_else {n = n} by b m here there =
     elim (cases_Bool (eqb b m)) [ inl e ↦ inl (subst (λ c. FailsRightly (n + 1) (by c)) (sym (eqb-true b m e)) here) | inr e ↦ there e ]
 
 -- an event, and so on
@@ -154,8 +154,8 @@ module _ {A : Type 0} (k : Event → List ℕ → Result A Answer) (n : ℕ) (af
 
   each_kind : (b : ℕ) → Known n (eventh k n) b
   each_kind b =
-      this-or-else (eventh k n) b 0 note_fails (λ c.
-      this-or-else (eventh k n) b 1 silence_fails (λ d. inr (λ bs. ap (λ z. then z (λ e. k e.0 e.1)) (pick_false _ _ _ c ∙ pick_false _ _ _ d))))
+      this_or_else (eventh k n) b 0 note_fails (λ c.
+      this_or_else (eventh k n) b 1 silence_fails (λ d. inr (λ bs. ap (λ z. then z (λ e. k e.0 e.1)) (pick_false _ _ _ c ∙ pick_false _ _ _ d))))
 
   event_fails : FailsRightly n (λ bs. then {A = Event × List ℕ} (event_at n bs) (λ e. k e.0 e.1))
   event_fails = first_fails n _ (eventh k n) refl (λ _ _. refl) 0 (omega arith) note_fails each_kind
@@ -178,12 +178,12 @@ put_fails = other_fails 1 fields_and_event (λ x. put x.0 x.1 x.2) placed_fails
 
 each_number : (b : ℕ) → Known 0 call_by b
 each_number b =
-    this-or-else call_by b 0 put_fails (λ c.
-    this-or-else call_by b 1 (other_fails 1 two_fields (λ x. cut x.0 x.1) two_fails) (λ d.
-    this-or-else call_by b 2 (other_fails 1 fields_and_event (λ x. change x.0 x.1 x.2) placed_fails) (λ e.
-    this-or-else call_by b 3 (other_fails 1 three_fields (λ x. show x.0 x.1 x.2) three_fails) (λ f.
-    this-or-else call_by b 4 (other_fails 1 two_fields (λ x. heard_in x.0 x.1) two_fails) (λ g.
-    this-or-else call_by b 5 (other_fails 1 one_field how_long one_fails) (λ h.
+    this_or_else call_by b 0 put_fails (λ c.
+    this_or_else call_by b 1 (other_fails 1 two_fields (λ x. cut x.0 x.1) two_fails) (λ d.
+    this_or_else call_by b 2 (other_fails 1 fields_and_event (λ x. change x.0 x.1 x.2) placed_fails) (λ e.
+    this_or_else call_by b 3 (other_fails 1 three_fields (λ x. show x.0 x.1 x.2) three_fails) (λ f.
+    this_or_else call_by b 4 (other_fails 1 two_fields (λ x. heard_in x.0 x.1) two_fails) (λ g.
+    this_or_else call_by b 5 (other_fails 1 one_field how_long one_fails) (λ h.
     inr (λ bs. pick_false _ _ _ c ∙ pick_false _ _ _ d ∙ pick_false _ _ _ e ∙ pick_false _ _ _ f ∙ pick_false _ _ _ g ∙ pick_false _ _ _ h)))))))
 
 call_fails : FailsRightly 0 read_call

@@ -27,11 +27,11 @@ length_symbols xs = length_each symbol_bytes 5 length_symbol xs
 pub length_sounds : (xs : List (ℕ × Heard)) → length (sounds_bytes xs) ≡ 8 * length xs
 length_sounds xs = length_each sound_bytes 8 (λ x. refl) xs
 
-pub all-below-++ : (b : ℕ) (xs ys : List ℕ) → all_below b xs ≡ true → all_below b ys ≡ true → all_below b (xs ++ ys) ≡ true
+pub all_below-++ : (b : ℕ) (xs ys : List ℕ) → all_below b xs ≡ true → all_below b ys ≡ true → all_below b (xs ++ ys) ≡ true
 unfolding all_below
-all-below-++ b [] ys p q = q
-all-below-++ b (x ∷ xs) ys p q =
-    let both = and_parts (ltb x b) (all_below b xs) p in and_from (ltb x b) _ both.0 (all-below-++ b xs ys both.1 q)
+all_below-++ b [] ys p q = q
+all_below-++ b (x ∷ xs) ys p q =
+    let both = and_parts (ltb x b) (all_below b xs) p in and_from (ltb x b) _ both.0 (all_below-++ b xs ys both.1 q)
 
 pub all_below_parts : (b : ℕ) (xs ys : List ℕ) → all_below b (xs ++ ys) ≡ true → (all_below b xs ≡ true) × (all_below b ys ≡ true)
 unfolding all_below

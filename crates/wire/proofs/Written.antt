@@ -20,10 +20,10 @@ put_next out was front ws last a n o p e =
     ∙ rw (o, ← drop-drop n a (front ++ drop a was), drop_at front (drop a was) a p, take_at front (drop a was) a p, drop-drop n a was, append_assoc) refl
 
 -- and where the front is written afterwards, as the count of what was written behind it
-pub put-before :
+pub put_before :
     {A : Type 0} (out front ws last : List A) (a n : ℕ) → a ≤ length out → last ≡ ws ++ drop n (take (length out - a) (drop a out))
     → front ++ drop a (put_mid a (length out - a) out last) ≡ (front ++ ws) ++ drop (a + n) out
-put-before out front ws last a n h e =
+put_before out front ws last a n h e =
     ap (λ r. front ++ drop a r) (put_rest out ws last a n e)
     ∙ ap (λ r. front ++ r) (drop_at (take a out) (ws ++ drop (a + n) out) a (simp length-take (omega arith)))
     ∙ sym (append_assoc front ws (drop (a + n) out))

@@ -85,10 +85,10 @@ pub word_fits :
     → got i ys ≡ one_of (map (λ x. x.now) (drop i ws)) i far xs
 word_fits ws d i w far xs ys t h e k = word_next ws d i w far xs (got t ys) h e k
 
-pub word-unfit :
+pub word_unfit :
     (ws : List (Bor (List ℕ))) (d : Bor (List ℕ)) (i : ℕ) (w far xs ys zs : List ℕ) → i < length ws → w ≡ (get_or ws i d).now → stuck ys ≡ strip w xs → zs ≡ shorter ys far
     → one_of (map (λ x. x.now) (drop (i + 1) ws)) (i + 1) zs xs ≡ one_of (map (λ x. x.now) (drop i ws)) i far xs
-word-unfit ws d i w far xs ys zs h e k s =
+word_unfit ws d i w far xs ys zs h e k s =
     ap (λ (z : List ℕ). one_of (map (λ x. x.now) (drop (i + 1) ws)) (i + 1) z xs) s
     ∙ ap (λ (n : ℕ). one_of (map (λ x. x.now) (drop (i + 1) ws)) n (shorter ys far) xs) (add-one i)
     ∙ word_next ws d i w far xs (stuck ys) h e k

@@ -1,11 +1,11 @@
 -- One sound after the other.
 use Rattle.score.specs.Meaning.{sound_meant}
 use Rattle.wire.specs.Reading.{sound_of}
-use Rattle.answers.proofs.Taken.{take-first, take_more, take_none, take_all}
+use Rattle.answers.proofs.Taken.{take_first, take_more, take_none, take_all}
 use Rattle.answers.proofs.sounds_in.Goals as goal
 
 pub loop-i-init : goal.loop-i-init
-loop-i-init c = take-first sound_of sound_meant 8 c.args.count _ c.args.bytes.now c.new-row.ensures.items
+loop-i-init c = take_first sound_of sound_meant 8 c.args.count _ c.args.bytes.now c.new-row.ensures.items
 
 pub loop-i-preserved : goal.loop-i-preserved
 loop-i-preserved c =

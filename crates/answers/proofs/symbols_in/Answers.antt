@@ -1,11 +1,11 @@
 -- One symbol after the other.
 use Rattle.score.specs.Meaning.{symbol_meant}
 use Rattle.wire.specs.Reading.{symbol_of}
-use Rattle.answers.proofs.Taken.{take-first, take_more, take_none, take_all}
+use Rattle.answers.proofs.Taken.{take_first, take_more, take_none, take_all}
 use Rattle.answers.proofs.symbols_in.Goals as goal
 
 pub loop-i-init : goal.loop-i-init
-loop-i-init c = take-first symbol_of symbol_meant 5 c.args.count _ c.args.bytes.now c.new-row.ensures.items
+loop-i-init c = take_first symbol_of symbol_meant 5 c.args.count _ c.args.bytes.now c.new-row.ensures.items
 
 pub loop-i-preserved : goal.loop-i-preserved
 loop-i-preserved c =

@@ -2,7 +2,7 @@
 use Rattle.std.proofs.Common.{◌≡◌, ◌-◌, length, take, drop, arith}
 use Rattle.std.proofs.lemmas.List.{take_rest, length-drop}
 use Rattle.std.proofs.lemmas.List.Sums.{sum_by-take-drop}
-use Rattle.sounds.proofs.Walks.{marks-rest}
+use Rattle.sounds.proofs.Walks.{marks_rest}
 use Rattle.sounds.proofs.mark_voice.Goals as goal
 
 pub mark-requires : goal.mark-requires
@@ -19,7 +19,7 @@ returns c =
     let t = c.reach-passed.ensures.tick in
     record {
       index = c.reach-passed.ensures.index;
-      marked = marks-rest c.args.voice c.args.first _ _ c.reach-passed.result.0 c.args.places.now c.args.lengths.now _ _ c.mark.ensures t;
+      marked = marks_rest c.args.voice c.args.first _ _ c.reach-passed.result.0 c.args.places.now c.args.lengths.now _ _ c.mark.ensures t;
       inside = c.reach-passed.ensures.inside;
       reached = λ l. omega (arith, c.reach-passed.ensures.reached l, t);
     }

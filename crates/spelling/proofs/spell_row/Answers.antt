@@ -1,10 +1,10 @@
 -- One of the row after the other.
 use Rattle.std.proofs.Common.{rules}
-use Rattle.spelling.proofs.Rows.{row_more, row-over}
+use Rattle.spelling.proofs.Rows.{row_more, row_over}
 use Rattle.spelling.proofs.spell_row.Goals as goal
 
 pub returns : goal.returns
-returns g c = row-over _ _ _ _ _ _ _ c.loop-item-test.false c.loop-item.invariant.1
+returns g c = row_over _ _ _ _ _ _ _ c.loop-item-test.false c.loop-item.invariant.1
 
 pub loop-item-preserved : goal.loop-item-preserved
 loop-item-preserved g c = (

@@ -2,10 +2,10 @@
 use Rattle.std.proofs.Common.{[], string_bytes, codes}
 use Rattle.score.specs.Meaning.{symbol_meant}
 use Rattle.spelling.specs.Spelling.{spelled_symbol}
-use Rattle.spelling.proofs.Rows.{row-meant, retold}
+use Rattle.spelling.proofs.Rows.{row_meant, retold}
 use Rattle.spelling.proofs.spell_symbols.Goals as goal
 
 pub returns : goal.returns
 returns c =
     retold c.spell_row.result (string_bytes c.spell_row.new.out) (string_bytes c.args.out.now) _ _
-    (row-meant spelled_symbol symbol_meant [] (codes " ") c.args.symbols.now) c.spell_row.ensures
+    (row_meant spelled_symbol symbol_meant [] (codes " ") c.args.symbols.now) c.spell_row.ensures

@@ -36,8 +36,8 @@ unfolding place
 returns-in_default-find_room c =
     let w : List ℕ = c.args.words.now in
     let s = c.in-Some-find_voice.ensures in
-    let in-it : c.args.index ≤ length (voice (score_of w) c.args.voice) = omega (arith, s.counts, c.in-Some-find_gap.ensures.0) in
-    let a = put_too_many w c.requires c.args.voice c.args.index (event_meant c.args.event) c.in-Some.ensures.can_write s.there in-it c.in_default-find_room.ensures in
+    let in_it : c.args.index ≤ length (voice (score_of w) c.args.voice) = omega (arith, s.counts, c.in-Some-find_gap.ensures.0) in
+    let a = put_too_many w c.requires c.args.voice c.args.index (event_meant c.args.event) c.in-Some.ensures.can_write s.there in_it c.in_default-find_room.ensures in
     record { said = sym a.said; left = sym a.left; holds = c.requires }
 
 pub returns-in_default-find_ticks : goal.returns-in_default-find_ticks
@@ -46,8 +46,8 @@ returns-in_default-find_ticks c =
     let w : List ℕ = c.args.words.now in
     let q = c.in-Some.ensures in
     let s = c.in-Some-find_voice.ensures in
-    let in-it : c.args.index ≤ length (voice (score_of w) c.args.voice) = omega (arith, s.counts, c.in-Some-find_gap.ensures.0) in
-    let a = put_too_long w c.requires c.args.voice c.args.index (event_meant c.args.event) q.can_write s.there in-it (omega (arith, q.ticks, c.in_default-find_ticks.ensures)) in
+    let in_it : c.args.index ≤ length (voice (score_of w) c.args.voice) = omega (arith, s.counts, c.in-Some-find_gap.ensures.0) in
+    let a = put_too_long w c.requires c.args.voice c.args.index (event_meant c.args.event) q.can_write s.there in_it (omega (arith, q.ticks, c.in_default-find_ticks.ensures)) in
     record { said = sym a.said; left = sym a.left; holds = c.requires }
 
 pub insert_event-requires : goal.insert_event-requires
@@ -56,8 +56,8 @@ insert_event-requires c =
     let s = c.in-Some-find_voice.ensures in
     let g = c.in-Some-find_gap.ensures in
     let u = c.in-Some-find_room.ensures in
-    let in-it : c.args.index ≤ length (voice (score_of w) c.args.voice) = omega (arith, s.counts, g.0) in
-    (c.requires, (s.there, (omega (arith, gap_within w c.requires c.args.voice c.args.index s.there in-it, g.1, s.begins, u.0), u.1)))
+    let in_it : c.args.index ≤ length (voice (score_of w) c.args.voice) = omega (arith, s.counts, g.0) in
+    (c.requires, (s.there, (omega (arith, gap_within w c.requires c.args.voice c.args.index s.there in_it, g.1, s.begins, u.0), u.1)))
 
 pub returns : goal.returns
 unfolding told
@@ -69,12 +69,12 @@ returns c =
     let g = c.in-Some-find_gap.ensures in
     let u = c.in-Some-find_room.ensures in
     let t = c.in-Some-find_ticks.ensures in
-    let in-it : c.args.index ≤ length (voice (score_of w) c.args.voice) = omega (arith, s.counts, g.0) in
+    let in_it : c.args.index ≤ length (voice (score_of w) c.args.voice) = omega (arith, s.counts, g.0) in
     let long : c.in-Some-find_ticks.ticks ≡ total (voice (score_of w) c.args.voice) + lasts e = omega (arith, t.0, q.ticks) in
     let room : all_events (score_of w) < limit_in w = omega (arith, u.0, u.1) in
-    let d = put_done w c.requires c.args.voice c.args.index e q.can_write s.there in-it room (omega (arith, t.1)) in
+    let d = put_done w c.requires c.args.voice c.args.index e q.can_write s.there in_it room (omega (arith, t.1)) in
     let row = put_left w c.requires c.args.voice c.args.index c.in-Some-find_gap.at c.in-Some-find_ticks.ticks s.there (omega (arith, g.1, s.begins)) e c.in-Some-find_room.used
-    q.can_write in-it room t.1 u.0 long in
+    q.can_write in_it room t.1 u.0 long in
     let p = q.place in
     let a = q.alteration in
     let n = q.ticks in

@@ -2,7 +2,7 @@
 use Rattle.std.proofs.Common.{◌<◌, ◌≤◌, length, sym, ap, ◌∙◌, arith}
 use Rattle.std.proofs.lemmas.Bool.{lt-ltb, le-ltb}
 use Rattle.score.proofs.Picks.{pick_true, pick_false}
-use Rattle.words.proofs.Steps.{word_fits, word-unfit, words_over}
+use Rattle.words.proofs.Steps.{word_fits, word_unfit, words_over}
 use Rattle.words.proofs.read_one_of.Goals as goal
 use Rattle.words.proofs.read_one_of.Goals.{then-rest-furthest, else-rest-furthest}
 
@@ -14,7 +14,7 @@ returns-in-Ok c =
 pub loop-i-preserved : goal.loop-i-preserved
 loop-i-preserved c =
     let h : c.loop-i.i < length c.args.words.now = omega arith in
-    word-unfit _ _ _ _ _ _ _ _ h c.as_bytes.ensures.value c.in-Err.ensures
+    word_unfit _ _ _ _ _ _ _ _ h c.as_bytes.ensures.value c.in-Err.ensures
     (elim c.if-rest-furthest.branch [
       | then-rest-furthest w ↦ ap (λ x. x.now) w.furthest-is ∙ sym (pick_true _ _ _ (lt-ltb _ _ w.if-rest-furthest.true))
       | else-rest-furthest w ↦ ap (λ x. x.now) w.furthest-is ∙ sym (pick_false _ _ _ (le-ltb _ _ w.if-rest-furthest.false))

@@ -1,6 +1,6 @@
 -- The first line end cuts, or there is none.
 use Rattle.std.proofs.Common.{arith, length-drop, length-take}
-use Rattle.script.proofs.Cuts.{cut_at, cut-last}
+use Rattle.script.proofs.Cuts.{cut_at, cut_last}
 use Rattle.script.proofs.lines.cut_line.Goals as goal
 
 pub returns-then-byte-eq10 : goal.returns-then-byte-eq10
@@ -11,6 +11,6 @@ returns-then-byte-eq10 c = record {
 
 pub returns : goal.returns
 returns c = record {
-  cut = cut-last c.args.text.now c.loop-i.i c.requires (omega arith) c.loop-i.invariant;
+  cut = cut_last c.args.text.now c.loop-i.i c.requires (omega arith) c.loop-i.invariant;
   less = simp (length-take, length-drop) (omega arith);
 }

@@ -5,7 +5,7 @@ use Rattle.score.specs.Calls.{refused, heard_in, place}
 use Rattle.memory.specs.Store.{limit_in}
 use Rattle.memory.proofs.Outcomes.{heard_too_wide}
 use Rattle.session.specs.Session.{Says}
-use Rattle.session.proofs.Saying.{says, hear-says}
+use Rattle.session.proofs.Saying.{says, hear_says}
 use Rattle.session.proofs.answers.hear.Goals as goal
 
 pub returns-in_default : goal.returns-in_default
@@ -28,6 +28,6 @@ returns c =
     let b = c.args.bytes.now in
     let five : 5 ≤ length b = omega (arith, c.requires.1) in
     let hears : Says w b c.write_sounds_head.new.out (heard_in c.args.from c.in-Some.to) (c.write_sounds_head.result + 8 * c.heard_in-count.result) =
-    hear-says w b _ c.args.from c.in-Some.to c.heard_in-count.result c.write_sounds_head.result _ c.requires.0 f.1
+    hear_says w b _ c.args.from c.in-Some.to c.heard_in-count.result c.write_sounds_head.result _ c.requires.0 f.1
     five c.heard_in-count.ensures.wrote c.heard_in-count.ensures.many c.write_sounds_head.ensures.many c.write_sounds_head.ensures.wrote in
     subst (λ (n : ℕ). Says w b c.write_sounds_head.new.out (heard_in c.args.from n) (c.write_sounds_head.result + 8 * c.heard_in-count.result)) f.0 hears

@@ -9,7 +9,7 @@ use Rattle.memory.proofs.Outcomes.{show_too_many, show_no_voice}
 use Rattle.memory.proofs.Scores.{fines_voice}
 use Rattle.engraving.specs.Shown.{page_bytes}
 use Rattle.session.specs.Session.{Says}
-use Rattle.session.proofs.Saying.{says, show-says}
+use Rattle.session.proofs.Saying.{says, show_says}
 use Rattle.session.proofs.answers.show.Goals as goal
 
 pub returns-in_default : goal.returns-in_default
@@ -46,7 +46,7 @@ returns c =
     let b = c.args.bytes.now in
     let five : 5 ≤ length b = omega (arith, c.requires.1) in
     let shows : Says w b c.write_symbols_head.new.out (show c.args.voice c.args.bar c.in-Some.count) _ =
-    show-says w b _ c.args.voice c.args.bar c.in-Some.count _ _ c.print-long.result c.write_symbols_head.result _
+    show_says w b _ c.args.voice c.args.bar c.in-Some.count _ _ c.print-long.result c.write_symbols_head.result _
     c.requires.0 c.in-Some-find_voice.ensures f.1
     five c.print-long.ensures.wrote c.print-long.ensures.many c.write_symbols_head.ensures.many c.write_symbols_head.ensures.wrote in
     subst (λ (n : ℕ). Says w b c.write_symbols_head.new.out (show c.args.voice c.args.bar n) (c.write_symbols_head.result + c.print-long.result)) f.0 shows

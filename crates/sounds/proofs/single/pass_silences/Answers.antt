@@ -1,6 +1,6 @@
 -- Each turn passes over one silence.
 use Rattle.std.proofs.Common.{◌<◌, length, sym, ◌∙◌, arith}
-use Rattle.sounds.proofs.Walks.{silences_more, silences_none, silences_all, silent-more, silent_none, rest_more}
+use Rattle.sounds.proofs.Walks.{silences_more, silences_none, silences_all, silent_more, silent_none, rest_more}
 use Rattle.sounds.proofs.single.pass_silences.Goals as goal
 
 pub overflow_add-tick : goal.overflow_add-tick
@@ -12,7 +12,7 @@ pub loop-index-preserved : goal.loop-index-preserved
 loop-index-preserved c =
     let m : c.loop-index.index < length c.args.lengths.now = omega arith in
     let s = silences_more c.loop-index.index c.args.places.now c.loop-index-test.true c.if-places-index-eq-SILENCE.true in
-    let t = silent-more c.loop-index.index c.args.places.now c.args.lengths.now c.loop-index-test.true m c.if-places-index-eq-SILENCE.true in
+    let t = silent_more c.loop-index.index c.args.places.now c.args.lengths.now c.loop-index-test.true m c.if-places-index-eq-SILENCE.true in
     let r = rest_more c.loop-index.index c.args.lengths.now m in
     (sym s ∙ c.loop-index.invariant.0, omega (arith, c.loop-index.invariant.1, t), omega (arith, c.loop-index.invariant.2, r))
 
