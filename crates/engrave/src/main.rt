@@ -7,6 +7,7 @@ use std::process::ExitCode;
 
 fn main(rt: HostRuntime) -> anyhow::Result<ExitCode> {
     let Ok(text) = read_input(&rt, "engrave") else {
+        // standard error has been told what could not be read, and why
         return Ok(ExitCode::FAILURE);
     };
     let answers = answer_script(rt.alloc(), &text)?;

@@ -184,6 +184,7 @@ fn proofread(heap: Global, text: &[u8], out: &mut String) -> anyhow::Result<()> 
 
 fn main(rt: HostRuntime) -> anyhow::Result<ExitCode> {
     let Ok(text) = read_input(&rt, "proofread") else {
+        // standard error has been told what could not be read, and why
         return Ok(ExitCode::FAILURE);
     };
     let mut out = String::new(rt.alloc());
