@@ -8,7 +8,7 @@ use Rattle.words.specs.Words.{Read, got, then, begins_with_digit, strip, one_of,
 use Rattle.text.specs.declared.Beginning.{Beginning}
 use Rattle.text.specs.declared.Beginning.TheVariants.{Step}
 use Rattle.text.specs.Lines.{beginning, alteration_word, alteration_in, alteration, length_on, note_on, event_on, event, whole}
-use Rattle.spelling.specs.Spelling.{letter, alteration_name, spelled_event}
+use Rattle.score.specs.Spelling.{letter, alteration_name, spelled_event}
 use Rattle.text_laws.specs.Back.{EventsBack}
 use Rattle.text_laws.proofs.Cases.{five, seven, digit_range}
 use Rattle.text_laws.proofs.Numbers.{decimal_digit, spaced_back, place_back}
