@@ -9,7 +9,7 @@ ghost use Rattle.score.specs.Calls.{symbols, sounds};
 ghost use Rattle.score.specs.Spelling.{spelled_bytes};
 
 use score::{Answer, Sound, Symbol};
-use spelling::{spell_refusal, spell_sounds, spell_symbols};
+use spelling::{spell_sounds, spell_symbols};
 use std::alloc::{AllocError, Global};
 use wire::{read_answer, read_sound, read_symbol};
 
@@ -55,7 +55,7 @@ pub fn spell_answer(heap: Global, bytes: &[u8], out: &mut String) -> anyhow::Res
     };
     match said {
         Answer::Done => write!(out, "done")?,
-        Answer::Refused { number, place } => spell_refusal(number, place as usize, out)?,
+        Answer::Refused { number, place } => write!(out, "refused {number} at {place}")?,
         Answer::Symbols { count } => spell_symbols_in(heap, &bytes[5..], count, out)?,
         Answer::Sounds { count } => spell_sounds_in(heap, &bytes[5..], count, out)?,
         Answer::Number { number } => write!(out, "{number}")?,

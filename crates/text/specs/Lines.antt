@@ -1,5 +1,5 @@
 -- What a line of text says: an event, a call, a setting. Assumes nothing: these are definitions.
-use Rattle.std.specs.Prelude.{ℕ, ◌-◌, List, [], ◌∷◌, ◌++◌, length, Ok, Err, codes, decimal, Result}
+use Rattle.std.specs.Prelude.{ℕ, ◌-◌, List, [], ◌∷◌, length, Ok, Err, codes, Result}
 use Rattle.score.specs.Music.{Event, note, silence}
 use Rattle.score.specs.Calls.{Call, put, cut, change, show, heard_in, how_long}
 use Rattle.score.specs.Meaning.{event_meant, call_meant}
@@ -116,7 +116,3 @@ setting_line name xs = whole xs (named name xs)
 abbrev pub said : {A B : Type 0} → (A → B) → Result A Unfit → Result B ℕ
 said f (Ok a) = Ok (f a)
 said f (Err u) = Err u.at
-
--- how that is answered where a call, or a line of an opening, was asked for: as a refusal by 1
-abbrev pub spelled_unfit : ℕ → List ℕ
-spelled_unfit at = codes "refused 1 at " ++ decimal at

@@ -2,7 +2,9 @@
 #![tactic(auto)]
 
 ghost use Rattle.std.specs.Prelude.{◌≡◌, Some};
-ghost use Rattle.text.specs.Lines.{alteration, alteration_word, beginning, event, event_read, note_on, length_on, verb, field, edit_on, edit_read, pair_on, bars_on, call_on, call_words, call_read, named, whole, call_line, event_line, setting_line, said, spelled_unfit};
+ghost use Rattle.text.specs.Lines.{alteration, alteration_word, beginning, event, event_read, note_on, length_on, verb, field, edit_on, edit_read, pair_on, bars_on, call_on, call_words, call_read, named, whole, call_line, event_line, setting_line, said};
+ghost use Rattle.score.specs.Calls.{refused};
+ghost use Rattle.score.specs.Spelling.{spelled_answer};
 ghost use Rattle.score.specs.Meaning.{call_meant, event_meant};
 ghost use Rattle.words.specs.Words.{outcome};
 
@@ -10,6 +12,9 @@ use score::{Call, Event};
 use std::error::Error;
 use std::fmt;
 use words::{read_one_of, read_place, read_spaced, read_word};
+
+/// The number under which a line that cannot be read stands in the list of refusals.
+const UNREADABLE: u8 = 1;
 
 /// The first byte of a line that does not fit, or its length where it ends too early.
 #[derive(Clone, Copy, PartialEq, Eq, Debug)]
@@ -19,11 +24,11 @@ pub struct Unfit {
 
 /// As what answers a line that is no call: `refused 1 at 4`.
 impl fmt::Display for Unfit {
-    ghost output = { λ u. Some (spelled_unfit u.at) };
+    ghost output = { λ u. Some (spelled_answer (refused 1 u.at)) };
 
     fn fmt<W: fmt::Write>(&self, f: &mut fmt::Formatter<W>) -> fmt::Result {
         let at = self.at;
-        write!(f, "refused 1 at {at}")
+        write!(f, "refused {UNREADABLE} at {at}")
     }
 }
 
