@@ -6,7 +6,7 @@ ghost use Rattle.std.specs.Option.{option_map};
 ghost use Rattle.score.specs.Meaning.{symbol_meant, sound_meant};
 ghost use Rattle.wire.specs.Reading.{symbol_of, sound_of, row_of, answer_of};
 ghost use Rattle.score.specs.Calls.{symbols, sounds};
-ghost use Rattle.spelling.specs.Spelling.{spelled_bytes};
+ghost use Rattle.score.specs.Spelling.{spelled_bytes};
 
 use score::{Answer, Sound, Symbol};
 use spelling::{spell_refusal, spell_sounds, spell_symbols};

@@ -13,8 +13,8 @@ use Rattle.laws.proofs.Rows.{rest_of, voice_at, voice_end, fine_from, Words, wor
 use Rattle.laws.proofs.Walk.{from_bar_walks, rest_none}
 use Rattle.keys.specs.Held.{key_row, held_in}
 use Rattle.keys.proofs.Holding.{held_at, held_key, held_set}
-use Rattle.engraving.specs.declared.voice.Layout.{Layout}
-use Rattle.engraving.specs.declared.voice.Rows.{Rows}
+use Rattle.score.specs.declared.Layout.{Layout}
+use Rattle.rows.specs.declared.Rows.{Rows}
 use Rattle.engraving.specs.Shown.{asked_for}
 use Rattle.engraving.specs.Voice.{Ready}
 

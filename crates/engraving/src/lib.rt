@@ -11,16 +11,14 @@ ghost use Rattle.laws.specs.Owed.{one};
 ghost use Rattle.wire.specs.Bytes.{symbols_bytes};
 ghost use Rattle.keys.specs.Held.{key_row};
 ghost use Rattle.engraving.specs.Shown.{shown, page_bytes, bars_take};
-ghost use Rattle.engraving.specs.Voice.{voice_in, Ready};
+ghost use Rattle.engraving.specs.Voice.{Ready};
+ghost use Rattle.rows.specs.Rows.{voice_in};
 
 use keys::{PLACES, begin_bar};
 use lengths::{largest, part_in_bar};
-use score::Symbol;
+use rows::Rows;
+use score::{Layout, Symbol};
 use wire::write_symbol;
-
-pub mod voice;
-
-use voice::{Layout, Rows};
 
 /// The first byte of a bar line.
 const BAR_LINE: u8 = 0;

@@ -4,10 +4,10 @@
 #[cfg(test)]
 mod tests {
     use engraving::bars_of;
-    use engraving::voice::{Layout, Rows};
+    use rows::Rows;
     use readback::read_back;
     use reading::Heard;
-    use score::Symbol;
+    use score::{Layout, Symbol};
     use std::process::Abort;
     use std::test::Fail;
     use wire::read_symbol;

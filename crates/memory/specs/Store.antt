@@ -3,7 +3,7 @@ use Rattle.std.specs.Prelude.{◌≡◌, ℕ, ◌+◌, ◌-◌, ◌*◌, ◌≤�
 use Rattle.score.specs.Music.{places, Event, note, silence, lasts, total, all_fine}
 use Rattle.score.specs.Calls.{Limits, Layout, Score, all_events, none_too_long}
 use Rattle.score.specs.Promise.{whole}
-use Rattle.laws.specs.Rows.{voice_of}
+use Rattle.laws.specs.Rows.{voice_of, stands, alters}
 
 -- how many words the header has, which the counts of the voices follow
 abbrev pub counts_from : ℕ
@@ -15,15 +15,6 @@ words_asked voices events = counts_from + (2 * voices + 3 * events)
 
 abbrev pub bytes_asked : ℕ → ℕ
 bytes_asked events = 8 * events + 262144
-
--- an event as three words: its place, where a silence has one that no note has, its alteration and its length
-abbrev pub stands : Event → ℕ
-stands (note p a d) = p
-stands (silence d) = places
-
-abbrev pub alters : Event → ℕ
-alters (note p a d) = a
-alters (silence d) = 0
 
 -- all events, voice by voice
 unfoldable pub flat : Score → List Event

@@ -3,12 +3,12 @@
 #![tactic(auto)]
 
 use answers::symbols_in;
-use engraving::voice::{Layout, Rows};
+use rows::Rows;
 use input::read_input;
 use keys::tone;
 use readback::read_back;
 use reading::Heard;
-use score::Event;
+use score::{Event, Layout};
 use script::lines::next_line;
 use spelling::{spell_refusal, spell_symbols};
 use std::alloc::{AllocError, Global};

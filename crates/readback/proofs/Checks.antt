@@ -3,12 +3,14 @@ use Rattle.std.proofs.Common.{◌≡◌, ℕ, ◌+◌, ◌*◌, ◌/◌, ◌%◌
 use Rattle.std.proofs.lemmas.Bool.{and_parts, leb-true, ltb-true, eqb-true}
 use Rattle.score.specs.declared.Refusal.{Refusal}
 use Rattle.score.specs.declared.Refusal.TheVariants.{BadOpening, OutOfRange, TooLittleMemory, Full}
+use Rattle.score.specs.Meaning.{good_layout}
 use Rattle.score.specs.Calls.{ticks_end}
 use Rattle.score.specs.Music.{pick, total}
-use Rattle.engraving.specs.declared.voice.Layout.{Layout}
-use Rattle.engraving.specs.declared.voice.Rows.{Rows}
-use Rattle.engraving.specs.Voice.{voice_in, Ready}
-use Rattle.readback.specs.Checked.{good_layout, writable, measured, bars_for, page_for, in_bars, bars_or_refusal}
+use Rattle.score.specs.declared.Layout.{Layout}
+use Rattle.rows.specs.declared.Rows.{Rows}
+use Rattle.engraving.specs.Voice.{Ready}
+use Rattle.rows.specs.Rows.{voice_in}
+use Rattle.readback.specs.Checked.{writable, measured, bars_for, page_for, in_bars, bars_or_refusal}
 
 pub record Good (y : Layout) : Type 0 where
   pub in_key : y.key ≤ 14

@@ -7,8 +7,8 @@ use Rattle.score.specs.Music.{fine, all_fine, total}
 use Rattle.score.proofs.Picks.{pick_true, pick_false}
 use Rattle.laws.specs.Rows.{event_of}
 use Rattle.laws.proofs.Rows.{rest_of, voice_at, voice_end, lasts_words}
-use Rattle.engraving.specs.declared.voice.Rows.{Rows}
-use Rattle.engraving.specs.Voice.{voice_in}
+use Rattle.rows.specs.declared.Rows.{Rows}
+use Rattle.rows.specs.Rows.{voice_in}
 use Rattle.readback.specs.Checked.{writable, measured}
 
 -- one event more is fine, or is not; and the ticks up to it

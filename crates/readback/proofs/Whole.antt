@@ -12,10 +12,10 @@ use Rattle.laws.proofs.Bars.{marks, lines, lines_print}
 use Rattle.laws.proofs.Reading.{reads_back}
 use Rattle.wire.specs.Bytes.{symbols_bytes}
 use Rattle.wire.proofs.Rows.{length_symbols}
-use Rattle.engraving.specs.declared.voice.Layout.{Layout}
-use Rattle.engraving.specs.declared.voice.Rows.{Rows}
+use Rattle.score.specs.declared.Layout.{Layout}
+use Rattle.rows.specs.declared.Rows.{Rows}
 use Rattle.engraving.specs.Shown.{asked_for, shown}
-use Rattle.engraving.specs.Voice.{voice_in}
+use Rattle.rows.specs.Rows.{voice_in}
 use Rattle.engraving.proofs.Room.{shown_fits}
 use Rattle.reading.specs.Symbols.{symbols_of, outcome}
 use Rattle.reading.proofs.Rows.{all_play, symbols_back}

@@ -1,16 +1,13 @@
 -- Which voices and layouts are read back, and by which refusal the others are turned away. Assumes nothing: these are definitions.
-use Rattle.std.specs.Prelude.{ℕ, ◌+◌, ◌*◌, ◌/◌, ◌%◌, Bool, ◌&&◌, length, Ok, Err, Result, ◌==◌, nat_le, nat_lt}
+use Rattle.std.specs.Prelude.{ℕ, ◌+◌, ◌*◌, ◌/◌, Bool, ◌&&◌, length, Ok, Err, Result, ◌==◌, nat_le, nat_lt}
 use Rattle.score.specs.declared.Refusal.{Refusal}
 use Rattle.score.specs.declared.Refusal.TheVariants.{OutOfRange, BadOpening, TooLittleMemory, Full}
+use Rattle.score.specs.Meaning.{good_layout}
 use Rattle.score.specs.Calls.{ticks_end}
 use Rattle.score.specs.Music.{pick, all_fine, total}
-use Rattle.engraving.specs.declared.voice.Layout.{Layout}
-use Rattle.engraving.specs.declared.voice.Rows.{Rows}
-use Rattle.engraving.specs.Voice.{voice_in}
-
--- a layout that a score may be opened with
-abbrev pub good_layout : Layout → Bool
-good_layout y = nat_le y.key 14 && (nat_lt 0 y.bar && (nat_le y.bar 768 && y.bar % 3 == 0))
+use Rattle.score.specs.declared.Layout.{Layout}
+use Rattle.rows.specs.declared.Rows.{Rows}
+use Rattle.rows.specs.Rows.{voice_in}
 
 -- rows that are as long as each other, and whose events can be written
 abbrev pub writable : Rows → Bool

@@ -4,9 +4,9 @@ use Rattle.score.specs.declared.Refusal.{Refusal}
 use Rattle.score.specs.Music.{heard}
 use Rattle.score.specs.Print.{printed}
 use Rattle.wire.specs.Bytes.{symbols_bytes}
-use Rattle.engraving.specs.declared.voice.Layout.{Layout}
-use Rattle.engraving.specs.declared.voice.Rows.{Rows}
-use Rattle.engraving.specs.Voice.{voice_in}
+use Rattle.score.specs.declared.Layout.{Layout}
+use Rattle.rows.specs.declared.Rows.{Rows}
+use Rattle.rows.specs.Rows.{voice_in}
 use Rattle.reading.specs.declared.Heard.{Heard}
 use Rattle.reading.specs.Told.{heard_meant}
 use Rattle.readback.specs.declared.ReadBack.{ReadBack}

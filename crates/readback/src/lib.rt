@@ -4,13 +4,13 @@
 ghost use Rattle.std.specs.Prelude.{◌≡◌, length, MatchResult};
 ghost use Rattle.score.specs.Music.{fine_length, fine};
 ghost use Rattle.laws.specs.Rows.{event_of};
-ghost use Rattle.readback.specs.Checked.{good_layout, measured, bars_or_refusal};
+ghost use Rattle.readback.specs.Checked.{measured, bars_or_refusal};
 ghost use Rattle.readback.specs.Heard.{answered, Back, Unchanged};
 
 use engraving::engrave;
-use engraving::voice::{Layout, Rows};
 use reading::{Heard, read};
-use score::Refusal;
+use rows::Rows;
+use score::{Layout, Refusal};
 
 /// The last key, the longest bar, and the shortest value, of which each bar and each length is a multiple.
 const LAST_KEY: u32 = 14;
@@ -27,16 +27,6 @@ const ALTERATIONS: u32 = 5;
 const LENGTH_END: u32 = 65536;
 
 const TICKS_END: u32 = 16777216;
-
-/// Whether a score may be laid out so.
-fn is_good(layout: Layout) -> bool
-    ensures { result ≡ good_layout layout }
-{
-    layout.key <= LAST_KEY
-        && layout.bar > 0
-        && layout.bar <= LONGEST_BAR
-        && layout.bar % SHORTEST == 0
-}
 
 fn is_fine_length(length: u32) -> bool
     ensures { result ≡ fine_length length }
@@ -81,7 +71,7 @@ fn ticks_of(rows: Rows) -> Result<u32, Refusal>
 fn bars_needed(rows: Rows, layout: Layout, page: usize, notes: usize) -> Result<u32, Refusal>
     ensures { result ≡ bars_or_refusal rows.entry layout page notes }
 {
-    if !is_good(layout) {
+    if !layout.is_good() {
         return Err(Refusal::BadOpening);
     }
     let ticks = ticks_of(rows)?;

@@ -4,3 +4,4 @@ pub mod Calls
 pub mod Promise
 pub mod Examples
 pub mod Meaning
+pub mod Spelling

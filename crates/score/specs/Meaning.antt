@@ -1,5 +1,5 @@
 -- What the declared types mean: each in the definitions' own data, and of a refusal its number and its place. Assumes nothing.
-use Rattle.std.specs.Prelude.{ℕ, List}
+use Rattle.std.specs.Prelude.{ℕ, ◌%◌, Bool, ◌&&◌, List, ◌==◌, nat_le, nat_lt}
 use Rattle.score.specs.Music as music
 use Rattle.score.specs.Print as print
 use Rattle.score.specs.Calls as calls
@@ -10,6 +10,7 @@ use Rattle.score.specs.declared.Symbol.TheVariants.{BarLine, Head, Rest}
 use Rattle.score.specs.declared.Sound.{Sound}
 use Rattle.score.specs.declared.Call.{Call}
 use Rattle.score.specs.declared.Call.TheVariants.{Put, Cut, Change, Show, HeardIn, HowLong}
+use Rattle.score.specs.declared.Layout.{Layout}
 use Rattle.score.specs.declared.Refusal.{Refusal}
 use Rattle.score.specs.declared.Refusal.TheVariants.{Unreadable, OutOfRange, BadOpening, TooLittleMemory, NoVoice, NoEvent, Full}
 use Rattle.score.specs.declared.Answer.{Answer}
@@ -64,3 +65,7 @@ answer_meant (Refused n p) xs hs = calls.refused n p
 answer_meant (Symbols n) xs hs = calls.symbols xs
 answer_meant (Sounds n) xs hs = calls.sounds hs
 answer_meant (Number n) xs hs = calls.number n
+
+-- a layout that a score may be opened with
+abbrev pub good_layout : Layout → Bool
+good_layout y = nat_le y.key 14 && (nat_lt 0 y.bar && (nat_le y.bar 768 && y.bar % 3 == 0))

@@ -4,7 +4,15 @@
 
 ghost use Rattle.std.specs.Prelude.{◌≡◌, ◌*◌};
 ghost use Rattle.score.specs.Examples.{WorkedExamples};
-ghost use Rattle.score.specs.Meaning.{refusal_number, refusal_place};
+ghost use Rattle.score.specs.Meaning.{refusal_number, refusal_place, good_layout};
+
+mod limits;
+mod spelled;
+
+pub use limits::{
+    ALTERATIONS, LAST_KEY, LENGTH_END, LONGEST_BAR, MOST_BARS, MOST_EVENTS, MOST_VOICES, PLACES,
+    SHORTEST, SILENT, TICKS_END, WIDEST_SPAN,
+};
 
 /// One of the events that a voice is a row of.
 #[derive(Clone, Copy, PartialEq, Eq, Debug)]
@@ -99,8 +107,15 @@ pub enum Refusal {
     Full,
 }
 
-/// What is answered to a call. Of symbols and of sounds it says how many follow.
-#[derive(Clone, Copy)]
+/// The key that a voice is printed in, and how many ticks a bar has.
+#[derive(Clone, Copy, PartialEq, Eq, Debug)]
+pub struct Layout {
+    pub key: u32,
+    pub bar: u32,
+}
+
+/// What is answered to a call. Of symbols and of sounds it says how many follow. A refusal is told by its number and place, whatever bytes say they are.
+#[derive(Clone, Copy, PartialEq, Eq, Debug)]
 pub enum Answer {
     Done,
     Refused { number: u8, place: u32 },
@@ -135,6 +150,15 @@ impl Refusal {
             Refusal::NoEvent(index) => index,
             Refusal::OutOfRange | Refusal::TooLittleMemory | Refusal::Full => 0,
         }
+    }
+}
+
+impl Layout {
+    /// Whether a score may be laid out so.
+    pub fn is_good(self) -> bool
+        ensures { result ≡ good_layout self }
+    {
+        self.key <= LAST_KEY && self.bar > 0 && self.bar <= LONGEST_BAR && self.bar % SHORTEST == 0
     }
 }
 

@@ -12,7 +12,7 @@ use Rattle.memory.proofs.Run.{kept_after, kept_empty}
 use Rattle.session.specs.declared.Opening.{Opening}
 use Rattle.session.specs.Session.{limits_for, layout_for, Ready, Opened}
 use Rattle.text.specs.Lines.{call_line}
-use Rattle.spelling.specs.Spelling.{spelled_answer}
+use Rattle.score.specs.Spelling.{spelled_answer}
 use Rattle.script.specs.Lines.{line_end}
 use Rattle.script.specs.Script.{answer_line, answer_lines, after_line, line_answers, serves, opened_answers}
 use Rattle.script.specs.Desk.{score_words, line_answer_in, words_after, line_answers_in}

@@ -8,7 +8,7 @@ use Rattle.session.specs.declared.Opening.{Opening}
 use Rattle.session.specs.Session.{opens, limits_for, layout_for}
 use Rattle.text.specs.declared.Unfit.{Unfit}
 use Rattle.text.specs.Lines.{call_line, setting_line}
-use Rattle.spelling.specs.Spelling.{spelled_answer}
+use Rattle.score.specs.Spelling.{spelled_answer}
 use Rattle.script.specs.Lines.{line_end, lines}
 
 -- first one, and with what it gives the other; or the first byte of a line that does not fit

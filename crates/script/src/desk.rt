@@ -5,7 +5,7 @@ ghost use Rattle.score.specs.Music.{pick};
 ghost use Rattle.score.specs.Meaning.{call_meant};
 ghost use Rattle.session.specs.Session.{Ready};
 ghost use Rattle.text.specs.Lines.{call_line};
-ghost use Rattle.spelling.specs.Spelling.{spelled_answer};
+ghost use Rattle.score.specs.Spelling.{spelled_answer};
 ghost use Rattle.script.specs.Lines.{lines};
 ghost use Rattle.script.specs.Script.{serves, opened_answers, answer_lines, script_answers};
 ghost use Rattle.script.specs.Desk.{score_words, line_answer_in, words_after, line_answers_in, asked_by};

@@ -7,13 +7,13 @@ ghost use Rattle.wire.specs.Bytes.{answer_bytes};
 ghost use Rattle.memory.specs.Store.{limit_in};
 ghost use Rattle.memory.specs.Words.{Holds, events_at, next_words};
 ghost use Rattle.engraving.specs.Shown.{shown, page_bytes};
-ghost use Rattle.engraving.specs.Voice.{voice_in};
+ghost use Rattle.rows.specs.Rows.{voice_in};
 ghost use Rattle.voices.specs.Said.{said_done, said_number};
 ghost use Rattle.session.specs.Session.{bytes_taken, Says};
 
 use engraving::engrave_page;
-use engraving::voice::{Layout, Rows};
-use score::{Call, Refusal};
+use rows::Rows;
+use score::{Call, Layout, Refusal};
 use sounds::heard_in;
 use voices::{Span, change, cut, find_voice, how_long, put, regions_of};
 use wire::{write_done, write_number, write_refused, write_sounds_head, write_symbols_head};

@@ -1,7 +1,7 @@
 -- A row of texts, written one after the other. Assumes nothing.
 use Rattle.std.proofs.Common.{◌≡◌, ℕ, ◌+◌, ◌<◌, ◌≤◌, List, [], ◌∷◌, ◌++◌, map, length, get_or, drop, IfOk, Result, sym, refl, ap, ◌∙◌, subst, append_assoc}
 use Rattle.std.proofs.lemmas.List.{at_drop_more, at_drop_all, append-nil}
-use Rattle.spelling.specs.Spelling.{spelled_row}
+use Rattle.score.specs.Spelling.{spelled_row}
 
 pub row_more :
     {A : Type 0} (f : A → List ℕ) (lead between out led spelt whole : List ℕ) (xs : List A) (i : ℕ) (x : A)

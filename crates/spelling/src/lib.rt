@@ -4,7 +4,7 @@
 ghost use Rattle.std.specs.Prelude.{◌≡◌, ℕ, List, [], ◌++◌, map, string_bytes, OnOk};
 ghost use Rattle.score.specs.Calls.{refused};
 ghost use Rattle.score.specs.Meaning.{event_meant, symbol_meant, sound_meant};
-ghost use Rattle.spelling.specs.Spelling.{letter, mark, alteration_name, spelled_event, spelled_symbol, spelled_sound, spelled_row, spelled_symbols, spelled_sounds, spelled_answer};
+ghost use Rattle.score.specs.Spelling.{letter, mark, alteration_name, spelled_event, spelled_symbol, spelled_sound, spelled_row, spelled_symbols, spelled_sounds, spelled_answer};
 
 use score::{Event, Sound, Symbol};
 use std::fmt;

@@ -6,7 +6,7 @@ use Rattle.score.specs.Music.{pick, Event, note, silence, places, alterations, l
 use Rattle.score.proofs.Picks.{pick_true, pick_false}
 use Rattle.words.specs.Words.{Read, got, then, begins_with_digit, strip, one_of, number, spaced_number}
 use Rattle.text.specs.Lines.{most_in_one, most_in_two, beginning, alteration_word, alteration_in, alteration, note_on, silence_on, event, whole}
-use Rattle.spelling.specs.Spelling.{letter, alteration_name, spelled_event}
+use Rattle.score.specs.Spelling.{letter, alteration_name, spelled_event}
 use Rattle.text_laws.specs.Back.{EventsBack}
 use Rattle.text_laws.proofs.Cases.{five, seven, digit_range}
 use Rattle.text_laws.proofs.Numbers.{decimal_digit, numbers_back, spaced_back}

@@ -5,7 +5,7 @@ use Rattle.score.specs.Music.{pick, places, length_end}
 use Rattle.score.specs.Print.{bar, head, rest}
 use Rattle.score.proofs.Picks.{pick_false}
 use Rattle.words.specs.Words.{Read, got, stuck, then, or_else, is_digit, begins_with_digit, strip, one_of}
-use Rattle.spelling.specs.Spelling.{letter, mark}
+use Rattle.score.specs.Spelling.{letter, mark}
 use Rattle.notation.specs.Notation.{most_in_one, most_in_two, kind, sign_mark, sign_at, step, tie_in, tie, value, head_on, symbol_on, symbol_text}
 use Rattle.text_laws.specs.Back.{ended, SymbolsBack}
 use Rattle.text_laws.proofs.Cases.{six, seven, digit_range}

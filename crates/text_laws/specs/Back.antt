@@ -5,7 +5,7 @@ use Rattle.score.specs.Print.{Symbol, bar, head, rest}
 use Rattle.score.specs.Promise.{field}
 use Rattle.words.specs.Words.{got, is_digit, begins_with_digit, number}
 use Rattle.text.specs.Lines.{event_line}
-use Rattle.spelling.specs.Spelling.{spelled_event, spelled_symbol, spelled_sound}
+use Rattle.score.specs.Spelling.{spelled_event, spelled_symbol, spelled_sound}
 use Rattle.notation.specs.Notation.{symbol_text, sound_text}
 
 -- A number is read back from its digits, if nothing that follows is a digit.

@@ -5,7 +5,7 @@ use Rattle.std.proofs.lemmas.List.{take_rest}
 use Rattle.score.specs.Calls.{symbols, sounds}
 use Rattle.score.specs.declared.Answer.{Answer as Said}
 use Rattle.wire.specs.Reading.{symbol_of, sound_of, row_of, answer_by}
-use Rattle.spelling.specs.Spelling.{spelled_bytes}
+use Rattle.score.specs.Spelling.{spelled_bytes}
 use Rattle.answers.proofs.spell_answer.Goals as goal
 
 pub returns-in_ok-spell_symbols_in-in-Symbols : goal.returns-in_ok-spell_symbols_in-in-Symbols

@@ -4,7 +4,7 @@ use Rattle.score.specs.Print.{from_bar, printed, so_many}
 use Rattle.laws.proofs.Owing.{so_many_none}
 use Rattle.wire.specs.Bytes.{symbols_bytes, each}
 use Rattle.engraving.specs.Shown.{shown}
-use Rattle.engraving.specs.Voice.{voice_in}
+use Rattle.rows.specs.Rows.{voice_in}
 use Rattle.engraving.proofs.engrave.Goals as goal
 
 pub returns-then-count-eq0 : goal.returns-then-count-eq0

@@ -2,10 +2,10 @@ use Rattle.std.proofs.Common.{◌≡◌, ℕ, ◌+◌, ◌-◌, ◌%◌, ◌<◌
 use Rattle.score.specs.Music.{Event}
 use Rattle.score.specs.Print.{Symbol, lesser}
 use Rattle.laws.proofs.Rows.{rest_of}
-use Rattle.engraving.specs.declared.voice.Layout.{Layout}
-use Rattle.engraving.specs.declared.voice.Rows.{Rows}
+use Rattle.score.specs.declared.Layout.{Layout}
+use Rattle.rows.specs.declared.Rows.{Rows}
 use Rattle.engraving.specs.Shown.{asked_for}
-use Rattle.engraving.specs.Voice.{voice_in}
+use Rattle.rows.specs.Rows.{voice_in}
 use Rattle.engraving.proofs.Page.{Page}
 use Rattle.engraving.proofs.Turns.{in_event, in_voice}
 use Rattle.engraving.proofs.print_bars.Given as goal

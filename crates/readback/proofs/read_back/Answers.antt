@@ -3,7 +3,7 @@ use Rattle.std.proofs.Common.{◌≡◌, ℕ, ◌-◌, List, ◌++◌, map, leng
 use Rattle.score.specs.Music.{heard}
 use Rattle.score.specs.Print.{read_from}
 use Rattle.engraving.specs.Shown.{shown}
-use Rattle.engraving.specs.Voice.{voice_in}
+use Rattle.rows.specs.Rows.{voice_in}
 use Rattle.reading.specs.Symbols.{symbols_of}
 use Rattle.reading.specs.Told.{heard_meant}
 use Rattle.readback.specs.Heard.{page_of}

@@ -2,7 +2,7 @@ use Rattle.std.proofs.Common.{◌≡◌, ◌+◌, ◌<◌, ◌≤◌}
 use Rattle.score.specs.Calls.{ticks_end}
 use Rattle.score.specs.Music.{all_fine, total}
 use Rattle.laws.proofs.Rows.{rest_of}
-use Rattle.engraving.specs.Voice.{voice_in}
+use Rattle.rows.specs.Rows.{voice_in}
 use Rattle.readback.proofs.ticks_of.Given as goal
 
 -- events that were passed are fine, and their ticks are counted up to where they are too many

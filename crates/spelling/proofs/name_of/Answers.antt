@@ -2,7 +2,7 @@
 use Rattle.std.proofs.Common.{sym, ap, ◌∙◌, arith}
 use Rattle.std.proofs.lemmas.Bool.{ne_eqb}
 use Rattle.score.proofs.Picks.{pick_false}
-use Rattle.spelling.specs.Spelling.{alteration_name}
+use Rattle.score.specs.Spelling.{alteration_name}
 use Rattle.spelling.proofs.name_of.Goals as goal
 
 pub returns-in-0 : goal.returns-in-0

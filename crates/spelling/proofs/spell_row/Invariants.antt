@@ -2,7 +2,7 @@
 use denote.Text.{Utf8}
 use denote.Shadow.{shadow}
 use Rattle.std.proofs.Common.{◌≡◌, [], ◌++◌, drop, string_bytes}
-use Rattle.spelling.specs.Spelling.{spelled_row}
+use Rattle.score.specs.Spelling.{spelled_row}
 use Rattle.spelling.proofs.spell_row.Given as goal
 
 abbrev pub invariant-loop-item : goal.invariant-loop-item

@@ -1,7 +1,7 @@
 -- A row, by what it means.
 use Rattle.std.proofs.Common.{[], string_bytes, codes}
 use Rattle.score.specs.Meaning.{symbol_meant}
-use Rattle.spelling.specs.Spelling.{spelled_symbol}
+use Rattle.score.specs.Spelling.{spelled_symbol}
 use Rattle.spelling.proofs.Rows.{row_meant, retold}
 use Rattle.spelling.proofs.spell_symbols.Goals as goal
 

@@ -1,7 +1,7 @@
 -- The call is written, the session answers it, and its answer is spelled.
 use Rattle.std.proofs.Common.{string_bytes, ap}
 use Rattle.score.specs.Meaning.{call_meant}
-use Rattle.spelling.specs.Spelling.{spelled_bytes}
+use Rattle.score.specs.Spelling.{spelled_bytes}
 use Rattle.spelling.proofs.Rows.{retold}
 use Rattle.script.proofs.Answering.{room, told, left}
 use Rattle.script.proofs.desk.answer_call.Goals as goal

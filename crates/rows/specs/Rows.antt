@@ -1,0 +1,34 @@
+-- What three words, and three rows of words, mean. Assumes nothing: these are definitions.
+use Rattle.std.specs.Prelude.{◌≡◌, ℕ, Bool, true, false, ◌&&◌, ◌||◌, List, [], ◌∷◌, Result, MatchResult, ◌==◌, nat_lt}
+use Rattle.score.specs.declared.Event.{Event as EventType}
+use Rattle.score.specs.Music.{Event, lasts, places, length_end}
+use Rattle.score.specs.Meaning.{event_meant}
+use Rattle.laws.specs.Rows.{event_of, voice_of, stands, alters}
+use Rattle.rows.specs.declared.Row.{Row}
+use Rattle.rows.specs.declared.Rows.{Rows}
+
+-- an event as words, and back
+abbrev pub row_of : Event → Row
+row_of e = record { place = stands e; alteration = alters e; length = lasts e }
+
+abbrev pub event_in : Row → Event
+event_in r = event_of r.place r.alteration r.length
+
+-- whether each number fits its field, of which a silence has only one
+abbrev pub fits : Row → Bool
+fits r = nat_lt r.length length_end && (r.place == places || (nat_lt r.place 256 && nat_lt r.alteration 256))
+
+-- the event of a row whose numbers fit their fields, and none else
+abbrev pub IfFits : {E : Type 0} → Row → Result EventType E → Type 0
+IfFits r result = MatchResult result (λ e. (fits r ≡ true) × (event_meant e ≡ event_in r)) (λ _. fits r ≡ false)
+
+-- three rows as one, up to the end of the shortest
+unfoldable pub zipped : List ℕ → List ℕ → List ℕ → List Row
+zipped [] xs ds = []
+zipped (p ∷ ps) [] ds = []
+zipped (p ∷ ps) (a ∷ xs) [] = []
+zipped (p ∷ ps) (a ∷ xs) (d ∷ ds) = record { place = p; alteration = a; length = d } ∷ zipped ps xs ds
+
+-- the voice in three rows
+abbrev pub voice_in : Rows → List Event
+voice_in r = voice_of r.places.now r.alterations.now r.lengths.now
