@@ -6,11 +6,7 @@ ghost use Rattle.score.specs.Music.{places, alterations, tone as tone_of};
 ghost use Rattle.score.specs.Print.{key};
 ghost use Rattle.keys.specs.Held.{key_row, sign_number, sign_needed, then_holding};
 
-/// How many places there are. A slice that says what holds at each of them has so many words.
-pub const PLACES: usize = 70;
-
-/// The place of a silence, which no note has.
-const SILENT: u32 = 70;
+use score::{PLACES, SILENT};
 
 /// The steps of an octave, of which each key alters a few in all octaves.
 const STEPS: u32 = 7;

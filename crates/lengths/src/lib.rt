@@ -6,11 +6,10 @@ ghost use Rattle.std.specs.Iterator.{YieldsFirst, item_count};
 ghost use Rattle.lengths.specs.Drawn.{Largest, InBar};
 ghost use Rattle.score.specs.Print.{pieces as pieces_of};
 
+use score::SHORTEST;
+
 /// The values that can be drawn, in ticks: from the whole note down to the sixty-fourth, plain or with a dot.
 pub const VALUES: [u32; 12] = [192, 144, 96, 72, 48, 36, 24, 18, 12, 9, 6, 3];
-
-/// The shortest of them.
-const SHORTEST: u32 = 3;
 
 /// The largest value that is not longer than `n`, or 0 where there is none.
 pub fn largest(n: u32) -> u32

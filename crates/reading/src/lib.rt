@@ -14,16 +14,13 @@ ghost use Rattle.reading.specs.Player.{said, then_held, after, after_head, ends,
 ghost use Rattle.reading.specs.Symbols.{playable, symbols_of, outcome};
 ghost use Rattle.reading.specs.Told.{state, heard_meant, notes, listed};
 
-use keys::{Holds, PLACES, begin_bar, tone};
-use score::Symbol;
+use keys::{Holds, begin_bar, tone};
+use score::{ALTERATIONS, PLACES, Symbol};
 use wire::read_symbol;
 
 pub mod player;
 
 use player::{Held, Player};
-
-/// The last sign: one more than the last alteration.
-const MOST_SIGNS: u8 = 5;
 
 /// A note as it is heard: when it begins and how long it is, in ticks, and its tone in half tones.
 #[derive(Clone, Copy, PartialEq, Eq, Debug)]
@@ -188,7 +185,7 @@ fn next_symbol(bytes: &[u8]) -> Option<Symbol>
 {
     let symbol = read_symbol(bytes)?;
     if let Symbol::Head { place, sign, .. } = symbol {
-        if place as usize >= PLACES || sign > MOST_SIGNS {
+        if place as usize >= PLACES || sign as u32 > ALTERATIONS {
             return None;
         }
     }
