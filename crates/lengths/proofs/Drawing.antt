@@ -7,7 +7,7 @@ use Rattle.std.proofs.lemmas.List.{drop-drop, take_more_set, drop-set-lt, take-a
 use Rattle.score.specs.Music.{pick}
 use Rattle.score.specs.Print.{all_values, largest, pieces}
 use Rattle.lengths.specs.Drawn.{Largest}
-use Rattle.laws.proofs.Pieces.{value_none, value_good, value_some, pieces_first}
+use Rattle.laws.proofs.Pieces.{value_none, value_good, value_some, pieces_first, pieces_next, pieces_none}
 use Rattle.laws.proofs.Few.{count, count_few}
 
 -- the first value that fits is the largest
@@ -38,6 +38,25 @@ found_known n v (Some x) e w = largest_known n v (w ∙ ap (λ o. unwrap_or o 0)
 -- the values of a length, where one fits and where none does
 pub next_value : (n v : ℕ) → 3 ≤ n → v ≡ largest n all_values → pieces n n ≡ v ∷ pieces (n - v) (n - v)
 next_value n v h e = pieces_first n v e (λ z. omega (arith, value_none n (sym e ∙ z)))
+
+-- and a row of values that begins, or is over
+pub value_known : (n v : ℕ) (vs : List ℕ) → pieces n n ≡ v ∷ vs → Largest n v × (0 < v) × (vs ≡ pieces (n - v) (n - v))
+value_known n v vs e = go (cases_eq (largest n all_values) 0)
+  where
+    go : (largest n all_values ≡ 0) ⊎ (largest n all_values ≡ 0 → ⊥) → Largest n v × (0 < v) × (vs ≡ pieces (n - v) (n - v))
+    go (inl z) = let f : v ∷ vs ≡ [] = sym e ∙ pieces_none n (value_none n z) in cc
+    go (inr f) =
+        let p = pieces_first n (largest n all_values) refl f in
+        let g = value_some n f in
+        let w : v ≡ largest n all_values = cc in
+        (largest_known n v w, omega arith, (let u : vs ≡ pieces (n - largest n all_values) (n - largest n all_values) = cc in u ∙ ap (λ (x : ℕ). pieces (n - x) (n - x)) (sym w)))
+
+pub values_over : (n : ℕ) → pieces n n ≡ [] → n % 3 ≡ 0 → n ≡ 0
+values_over n e m = go (cases_eq n 0)
+  where
+    go : (n ≡ 0) ⊎ (n ≡ 0 → ⊥) → n ≡ 0
+    go (inl z) = z
+    go (inr f) = let p = pieces_next n (largest n all_values) (omega arith) m refl in let z : ◌≡◌ {A = ℕ} 0 1 = cc in absurd (omega arith)
 
 -- Values written over the front of a row that was lent: what is written and what is still owed is all of it, the rest is as it was, and there is
 -- room for what is written.
