@@ -67,17 +67,12 @@ together_slots s a b f =
     ∙ sym (together_mixed s (grain * up a) (grain * (up a + (up b - up a))))
 
 -- of empty slots, the first n
-pub slots_empty : (n m : ℕ) → n ≤ m → take (n - 0) (replicate {A = ℕ} m 0) ≡ replicate n 0
-slots_empty n m h = ap (λ (k : ℕ). take k (replicate {A = ℕ} m 0)) (omega arith) ∙ take-replicate {X = ℕ} n m 0 h
+pub slots_many : (n m : ℕ) → n ≤ m → length (take n (replicate {A = ℕ} m 0)) ≡ n
+slots_many n m h = length-take-le n (replicate {A = ℕ} m 0) (omega (arith, h, length-replicate {A = ℕ} m 0))
 
-pub slots_many : (n m : ℕ) → n ≤ m → length (take (n - 0) (replicate {A = ℕ} m 0)) ≡ n
-slots_many n m h = ap length (slots_empty n m h) ∙ length-replicate {A = ℕ} n 0
+pub slots_empty : (n m : ℕ) → n ≤ m → take n (replicate {A = ℕ} m 0) ≡ replicate (length (take n (replicate {A = ℕ} m 0))) 0
+slots_empty n m h = take-replicate {X = ℕ} n m 0 h ∙ ap (λ (k : ℕ). replicate k 0) (sym (slots_many n m h))
 
 -- what is heard in a span of ticks, and in the slots that the code takes for it
-pub span_heard : {s : Score} {w : List ℕ} (a b first n k : ℕ) → Holds w → s ≡ score_of w → first ≡ up a → n ≡ up b - first → k ≡ n → together s 0 (grain * first) (grain * (first + k)) ≡ together (score_of w) 0 a b
-span_heard {s} {w} a b first n k h e f g q =
-    let m : k ≡ up b - up a = omega arith in
-    let t = together_slots (score_of w) a b h.kept.fines in
-    ap (λ (x : Score). together x 0 (grain * first) (grain * (first + k))) e
-    ∙ ap (λ (i : ℕ). together (score_of w) 0 (grain * first) (grain * (first + i))) m
-    ∙ ap (λ (i : ℕ). together (score_of w) 0 (grain * i) (grain * (i + (up b - up a)))) f ∙ sym t
+pub span_heard : (s : Score) (a b first n k : ℕ) → all_fines s ≡ true → first ≡ up a → n ≡ up b - first → k ≡ n → together s 0 (grain * first) (grain * (first + k)) ≡ together s 0 a b
+span_heard s a b first n k h f g q = let m : k ≡ up b - up a = omega arith in rw (m, f) (sym (together_slots s a b h))
