@@ -282,15 +282,12 @@ pub record Next (es : List Event) (ps xs ds : List ℕ) (k t u e : ℕ) (y : ℕ
   pub sound : y ≡ (u, sound_at ps xs ds k y.1.start)
   pub rest : ys ≡ until u e (heard (drop (suc k) es) (t + total (take (suc k) es)))
 
-no_note : {A : Type 0} (y : ℕ × Heard) (ys : Row) → [] ≡ y ∷ ys → A
-no_note y ys e = absurd (let z : ◌≡◌ {A = ℕ} 0 1 = cc in omega arith)
-
 until_first : (u e : ℕ) (h : Heard) (hs : List Heard) (y : ℕ × Heard) (ys : Row) → until u e (h ∷ hs) ≡ y ∷ ys → (y ≡ (u, h)) × (ys ≡ until u e hs)
 unfolding until
 until_first u e h hs y ys q =
     elim (cases_lt h.start e) [
       | inl l ↦ let f : (u, h) ∷ until u e hs ≡ y ∷ ys = sym (pick_true (ltb h.start e) _ _ (lt-ltb _ _ l)) ∙ q in (cc, cc)
-      | inr l ↦ no_note y ys (sym (pick_false (ltb h.start e) _ _ (le-ltb _ _ l)) ∙ q)
+      | inr l ↦ let f : [] ≡ y ∷ ys = sym (pick_false (ltb h.start e) _ _ (le-ltb _ _ l)) ∙ q in (cc, cc)
     ]
 
 pub next_heard :
@@ -307,5 +304,5 @@ next_heard ps xs ds n t u e y ys h =
             sound = f.0 ∙ ap (λ (i : ℕ). (u, sound_at ps xs ds (silences ps) i)) (sym (ap (λ (z : ℕ × Heard). z.1.start) f.0));
             rest = f.1;
           }
-      | inr s ↦ no_note y ys (ap (until u e) (sym s.nothing) ∙ h)
+      | inr s ↦ let f : [] ≡ y ∷ ys = ap (until u e) (sym s.nothing) ∙ h in cc
     ]

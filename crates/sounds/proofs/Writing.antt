@@ -28,7 +28,7 @@ module _ {ns ps xs ds : List ℕ} {e : ℕ} where
       → Writing ns ps xs ds e start came from cursors out count t (m ∷ ms) → (m ≡ 0 → ⊥) → m < 2 ^ 64
       → (at : ℕ) → at ≡ get_or cursors (count_trailing_zeros 64 m) 0 + silences (drop (get_or cursors (count_trailing_zeros 64 m) 0) ps) → Turned ns ps xs ds e cursors t m (count_trailing_zeros 64 m) ms at
   writing_next {start} {came} {from} {cursors} {out} {count} {t} {m} {ms} l w ne h at q =
-      turned ns ps xs ds e cursors t m (count_trailing_zeros 64 m) ms l w.enough w.ready (trailing_lowest 64 m (omega arith) h) at q
+      turned ns ps xs ds e cursors t m (count_trailing_zeros 64 m) ms l w.enough w.ready (trailing_lowest m (omega arith) h) at q
 
   -- a note is written behind those that are there
   pub writing_turn :
