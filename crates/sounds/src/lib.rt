@@ -9,7 +9,6 @@ ghost use Rattle.score.specs.Meaning.{sound_meant};
 ghost use Rattle.score.specs.Calls.{widest_span, together};
 ghost use Rattle.wire.specs.Bytes.{sound_bytes, sounds_bytes};
 ghost use Rattle.memory.specs.Store.{limit_in, score_of};
-ghost use Rattle.memory.specs.Words.{Holds};
 ghost use Rattle.sounds.specs.Spans.{passed, note_ticks, ticks_from, silences, grain, marks};
 ghost use Rattle.sounds.specs.Rows.{heard_at};
 
@@ -21,6 +20,7 @@ use rows::Row;
 use score::{SHORTEST, SILENT, Sound};
 pub use single::{Notes, heard, notes_heard};
 use together::Voices;
+use voices::Stored;
 
 /// Notes begin only at multiples of so many ticks.
 const GRAIN: usize = SHORTEST as usize;
@@ -112,13 +112,12 @@ fn mark_voice(places: &[u32], lengths: &[u32], voice: u32, first: usize, slots: 
 
 /// Writes the notes of all voices that begin from a tick up to before another, by time, and by voice where times are the same, over the front of lent
 /// bytes: eight bytes each. Returns how many they are.
-pub fn heard_in(words: &[u32], from: u32, to: u32, out: &mut [u8]) -> usize
-    requires holds { Holds words.now }
+pub fn heard_in(score: Stored<'_>, from: u32, to: u32, out: &mut [u8]) -> usize
     requires span { to ≤ from + widest_span }
-    requires room { 8 * limit_in words.now ≤ length out.old }
-    ensures wrote { out.new ≡ sounds_bytes (together (score_of words.now) 0 from to) ++ drop (8 * result) out.old }
-    ensures many { result ≡ length (together (score_of words.now) 0 from to) }
-    ensures few { result ≤ limit_in words.now }
+    requires room { 8 * limit_in score.words.now ≤ length out.old }
+    ensures wrote { out.new ≡ sounds_bytes (together (score_of score.entry.words.now) 0 from to) ++ drop (8 * result) out.old }
+    ensures many { result ≡ length (together (score_of score.entry.words.now) 0 from to) }
+    ensures few { result ≤ limit_in score.entry.words.now }
 {
-    Voices::of(words).write_span(from, to, out)
+    Voices::from(score).write_span(from, to, out)
 }

@@ -4,13 +4,12 @@ ghost use Rattle.std.specs.Iterator.{at_most};
 ghost use Rattle.score.specs.Music.{heard as heard_from};
 ghost use Rattle.score.specs.Calls.{voice as voice_in};
 ghost use Rattle.memory.specs.Store.{voices_in, score_of};
-ghost use Rattle.memory.specs.Words.{Holds};
 ghost use Rattle.sounds.specs.Single.{rows_yet, Playable, heard_yet, IsEven, Steps, NotesHeard};
 
 use super::sound_of;
 use rows::Rows;
 use score::Sound;
-use voices::{Regions, Span, find_voice, regions_of};
+use voices::Stored;
 
 /// The notes of one voice as they are heard, one after the other.
 #[derive(Clone, Copy)]
@@ -43,23 +42,13 @@ impl Iterator for Notes<'_> {
 }
 
 /// The notes of a voice, if the voice is there.
-pub fn heard(words: &[u32], voice: u32) -> Option<Notes<'_>>
-    requires { Holds words.now }
-    ensures { MatchOption result (voices_in words.now ≤ voice) (λ n. Playable n × IsEven n × (n.voice ≡ voice) × (voice < voices_in words.now) × (heard_yet n ≡ heard_from (voice_in (score_of words.now) voice) 0)) }
+pub fn heard(score: Stored<'_>, voice: u32) -> Option<Notes<'_>>
+    ensures { MatchOption result (voices_in score.entry.words.now ≤ voice) (λ n. Playable n × IsEven n × (n.voice ≡ voice) × (voice < voices_in score.entry.words.now) × (heard_yet n ≡ heard_from (voice_in (score_of score.entry.words.now) voice) 0)) }
 {
-    let Span { begin, count } = find_voice(words, voice)?;
-    let Regions {
-        places,
-        alterations,
-        lengths,
-    } = regions_of(words);
+    let span = score.find_voice(voice)?;
     Some(Notes {
         voice: voice as u8,
-        rows: Rows {
-            places: &words[places + begin..places + begin + count],
-            alterations: &words[alterations + begin..alterations + begin + count],
-            lengths: &words[lengths + begin..lengths + begin + count],
-        },
+        rows: score.rows(span),
         tick: 0,
     })
 }

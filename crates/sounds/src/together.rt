@@ -3,13 +3,12 @@ ghost use Rattle.std.specs.Prelude.{◌≡◌, ◌+◌, ◌*◌, ◌^◌, ◌<�
 ghost use Rattle.score.specs.Calls.{all_events, widest_span, together};
 ghost use Rattle.wire.specs.Bytes.{sounds_bytes};
 ghost use Rattle.memory.specs.Store.{score_of};
-ghost use Rattle.memory.specs.Words.{Holds};
 ghost use Rattle.sounds.specs.Spans.{grain, silences, Laid};
 
 use super::{GRAIN, mark_voice, silences_first, sound_of};
 use rows::{Row, Rows};
 use score::{MOST_VOICES, WIDEST_SPAN};
-use voices::{COUNTS, Regions, VOICES, regions_of};
+use voices::Stored;
 use wire::write_sound;
 
 /// The widest span has so many slots, one for each tick at which a note may begin.
@@ -26,29 +25,21 @@ pub struct Voices<'a> {
     ghost laid: { Laid counts.now rows.places.now rows.alterations.now rows.lengths.now },
 }
 
-impl<'a> Voices<'a> {
-    ghost use Rattle.sounds.specs.Scores.{score_in, row_at, Ready, all_left};
+impl<'a> From<Stored<'a>> for Voices<'a> {
+    ghost use Rattle.sounds.specs.Scores.{score_in};
 
-    /// The voices of the score that words hold.
-    pub fn of(words: &'a [u32]) -> Voices<'a>
-        requires { Holds words.now }
-        ensures { score_in result ≡ score_of words.now }
-    {
-        let voices = words[VOICES] as usize;
-        let Regions {
-            places,
-            alterations,
-            lengths,
-        } = regions_of(words);
+    ghost from_gives = { λ s v. score_in v ≡ score_of s.words.now };
+
+    fn from(score: Stored<'a>) -> Voices<'a> {
         Voices {
-            counts: &words[COUNTS..COUNTS + voices],
-            rows: Rows {
-                places: &words[places..alterations],
-                alterations: &words[alterations..lengths],
-                lengths: &words[lengths..],
-            },
+            counts: score.counts(),
+            rows: score.regions(),
         }
     }
+}
+
+impl Voices<'_> {
+    ghost use Rattle.sounds.specs.Scores.{score_in, row_at, Ready, all_left};
 
     /// Sets the bits of all voices in empty slots, where they begin notes. Returns each voice's first event from the first slot on.
     #[tactic(auto, using(crate::proofs::Walks::ticks_more))]
@@ -69,6 +60,7 @@ impl<'a> Voices<'a> {
                 first,
                 slots,
             );
+            // by its index: what is written through a zip with `iter_mut()` is not known in the loop's invariant (tried)
             cursors[voice] = begin + passed;
             begin = end;
         }
