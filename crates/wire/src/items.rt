@@ -3,6 +3,7 @@ ghost use Rattle.std.specs.Prelude.{◌≡◌, ℕ, ◌≤◌, List, ◌++◌, l
 ghost use Rattle.std.specs.Option.{option_map};
 ghost use Rattle.score.specs.Music.{Heard};
 ghost use Rattle.score.specs.Print as Print;
+ghost use Rattle.score.specs.Calls.{Answer, symbols, sounds};
 ghost use Rattle.score.specs.Meaning.{symbol_meant, sound_meant};
 ghost use Rattle.wire.specs.Bytes.{symbol_bytes, sound_bytes};
 ghost use Rattle.wire.specs.Reading.{symbol_of, sound_of};
@@ -22,6 +23,8 @@ pub trait Item: Copy {
     ghost written: { Meaning → List ℕ };
 
     ghost of: { List ℕ → Option Meaning };
+
+    ghost answer: { List Meaning → Answer };
 
     /// How many bytes one takes.
     const SIZE: usize;
@@ -52,6 +55,8 @@ impl Item for Symbol {
     ghost written = { symbol_bytes };
 
     ghost of = { symbol_of };
+
+    ghost answer = { symbols };
 
     const SIZE: usize = 5;
 
@@ -111,6 +116,8 @@ impl Item for Sound {
     ghost written = { sound_bytes };
 
     ghost of = { sound_of };
+
+    ghost answer = { sounds };
 
     const SIZE: usize = 8;
 
