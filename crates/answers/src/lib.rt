@@ -1,7 +1,7 @@
 //! Answers, from their bytes to a line of text.
 #![tactic(auto)]
 
-ghost use Rattle.std.specs.Prelude.{◌≡◌, List, [], ◌++◌, map, IfOk, string_bytes, OnOk};
+ghost use Rattle.std.specs.Prelude.{◌≡◌, ◌++◌, map, IfOk, string_bytes, OnOk};
 ghost use Rattle.std.specs.Option.{option_map};
 ghost use Rattle.wire.specs.Reading.{row_of, answer_of};
 ghost use Rattle.spelling.specs.Spelling.{spelled_answer, spelled_bytes};
