@@ -134,15 +134,16 @@ fn bytes_of_bars(page: &[u8], count: u32) -> usize
     ensures is { result ≡ bars_take count page.now }
     ensures within { result ≤ length page.now }
 {
-    let mut at = 0;
     let mut more = count;
-    while more > 0 && page.len() - at >= 5 {
-        if page[at] == BAR_LINE {
+    for (passed, symbol) in page.chunks_exact(5).enumerate() {
+        if more == 0 {
+            return 5 * passed;
+        }
+        if symbol[0] == BAR_LINE {
             more -= 1;
         }
-        at += 5;
     }
-    at
+    page.len() - page.len() % 5
 }
 
 /// Of what is printed, the bars from number `from` on, up to `count` of them: a part that is handed on as it stands there.
