@@ -83,14 +83,19 @@ impl Voices<'_> {
     }
 
     /// Writes what is left of all voices as the slots tell it: slot by slot, and in each the voices in order. Returns how many notes that is.
-    fn write(self, first: usize, slots: &[u64], cursors: [usize; CURSORS], out: &mut [u8]) -> usize
+    fn write(
+        self,
+        first: usize,
+        slots: &[u64],
+        mut cursors: [usize; CURSORS],
+        out: &mut [u8],
+    ) -> usize
         requires ready { Ready self (grain * (first + length slots.now)) cursors (grain * first) slots.now }
         requires small { grain * (first + length slots.now) < 2 ^ 32 }
         requires room { 8 * length (all_left self (grain * (first + length slots.now)) cursors) ≤ length out.old }
         ensures wrote { out.new ≡ sounds_bytes (all_left self.entry (grain * (first + length slots.now)) cursors) ++ drop (8 * result) out.old }
         ensures many { result ≡ length (all_left self.entry (grain * (first + length slots.now)) cursors) }
     {
-        let mut cursors = cursors;
         let mut count = 0;
         for (index, slot) in slots.iter().enumerate() {
             let start = (GRAIN * (first + index)) as u32;
