@@ -2,6 +2,7 @@
 use Rattle.std.proofs.Common.{◌≡◌, ℕ, zero, suc, ◌+◌, ◌-◌, ◌*◌, ◌/◌, ◌%◌, ◌<◌, ◌≤◌, min, Bool, true, false, cond, one-add, ◌&&◌, eqb, ltb, leb, List, [], ◌∷◌, map, length, get_or, take, drop, sum, sym, refl, ap, ◌∙◌, inl, inr, add_assoc, suc-add, zero-add, arith}
 use Rattle.std.proofs.lemmas.List.{drop-drop, drop_all, get_or_past, take_all}
 use Rattle.std.proofs.lemmas.List.Sums.{sum_by-cons}
+use Rattle.std.proofs.lemmas.Grind.{common_steps}
 use Rattle.std.proofs.lemmas.Bool.{and_parts, and_from, and_left, and_right, cases_lt, le-leb, lt-leb, lt-ltb, le-ltb, ltb-true}
 use Rattle.score.specs.Music.{pick, places, alterations, length_end, Event, note, silence, lasts, tone, Heard, heard, total, fine, all_fine}
 use Rattle.score.specs.Calls.{voice, begins}
@@ -48,7 +49,7 @@ unfolding voice_of
 length_voice [] xs ds p q = refl
 length_voice (p ∷ ps) [] ds e q = absurd (omega arith)
 length_voice (p ∷ ps) (x ∷ xs) [] e q = absurd (omega arith)
-length_voice (p ∷ ps) (x ∷ xs) (d ∷ ds) e q = ap suc (length_voice ps xs ds (omega arith) (omega arith))
+length_voice (p ∷ ps) (x ∷ xs) (d ∷ ds) e q = grind (arith, length_voice ps xs ds)
 
 pub lasts_voice : (ps xs ds : List ℕ) → length xs ≡ length ps → length ds ≡ length ps → map lasts (voice_of ps xs ds) ≡ ds
 unfolding voice_of
@@ -63,16 +64,14 @@ lasts_voice (p ∷ ps) (x ∷ xs) (d ∷ ds) e q =
 pub total_sum : (es : List Event) → total es ≡ sum (map lasts es)
 unfolding total
 total_sum [] = refl
-total_sum (e ∷ es) = ap (λ (n : ℕ). lasts e + n) (total_sum es) ∙ sym (sum_by-cons (λ x. x) (lasts e) (map lasts es))
+total_sum (e ∷ es) = let c = sum_by-cons (λ x. x) (lasts e) (map lasts es) in omega (arith, c, total_sum es)
 
 -- the ticks of a front, in two parts
 pub total_take : (i k : ℕ) (es : List Event) → total (take i es) + total (take k (drop i es)) ≡ total (take (i + k) es)
 unfolding total
-total_take zero k es = zero-add _ ∙ ap (λ (n : ℕ). total (take n es)) (sym (zero-add k))
-total_take (suc i) k [] = zero-add _ ∙ ap total (take_all k [] (omega arith)) ∙ sym (ap total (take_all (suc i + k) [] (omega arith)))
-total_take (suc i) k (e ∷ es) =
-    let ih = total_take i k es in
-    add_assoc (lasts e) _ _ ∙ ap (λ (n : ℕ). lasts e + n) ih ∙ ap (λ (n : ℕ). total (take n (e ∷ es))) (sym (suc-add i k))
+total_take zero k es = grind (arith, common_steps)
+total_take (suc i) k [] = grind (arith, common_steps)
+total_take (suc i) k (e ∷ es) = rw suc-add (omega (arith, total_take i k es))
 
 -- a note that can be written has fields in range
 pub note_fields : (p a d : ℕ) → fine (note p a d) ≡ true → (p < places) × (a < alterations) × (d < length_end)
@@ -97,10 +96,10 @@ take_none : {A : Type 0} (n : ℕ) (xs : List A) → n ≡ 0 → take n xs ≡ [
 take_none n xs e = ap (λ (k : ℕ). take k xs) e
 
 pub drop_take_sub : {A : Type 0} (i c : ℕ) (xs : List A) → drop i (take c xs) ≡ take (c - i) (drop i xs)
-drop_take_sub zero c xs = ap (λ (n : ℕ). take n xs) (omega arith)
-drop_take_sub (suc i) zero xs = sym (take_none (0 - suc i) (drop (suc i) xs) (omega arith))
-drop_take_sub (suc i) (suc c) [] = sym (take_all (suc c - suc i) [] (omega arith))
-drop_take_sub (suc i) (suc c) (x ∷ xs) = drop_take_sub i c xs ∙ ap (λ (n : ℕ). take n (drop i xs)) (omega arith)
+drop_take_sub zero c xs = grind (arith, common_steps)
+drop_take_sub (suc i) zero xs = grind (arith, common_steps)
+drop_take_sub (suc i) (suc c) [] = grind (arith, common_steps)
+drop_take_sub (suc i) (suc c) (x ∷ xs) = grind (arith, common_steps, drop_take_sub i c xs)
 
 -- ---- what begins in a span
 
