@@ -1,36 +1,26 @@
 -- Which symbol, and which note as it is heard, a text begins with. Assumes nothing: these are definitions.
-use Rattle.std.specs.Prelude.{ℕ, ◌+◌, ◌-◌, ◌*◌, ◌/◌, Bool, true, false, List, [], ◌∷◌, codes, ◌==◌}
-use Rattle.score.specs.Music.{pick, Heard}
+use Rattle.std.specs.Prelude.{ℕ, Bool, true, false, List, [], ◌∷◌, codes}
+use Rattle.score.specs.Music.{Heard}
 use Rattle.score.specs.Print.{Symbol, bar, head, rest}
 use Rattle.score.specs.Meaning.{symbol_meant, sound_meant}
 use Rattle.score.specs.declared.Symbol.{Symbol as SymbolType}
 use Rattle.score.specs.declared.Sound.{Sound as SoundType}
-use Rattle.words.specs.Words.{Read, got, stuck, then, strip, one_of, number, spaced_number}
-
--- the largest numbers that fields of one, two and four bytes carry
-abbrev pub most_in_one : ℕ
-most_in_one = 255
-
-abbrev pub most_in_two : ℕ
-most_in_two = 65535
-
-abbrev pub most_in_four : ℕ
-most_in_four = 4294967295
+use Rattle.words.specs.Words.{Read, got, stuck, then, strip, one_of, number, spaced_number, place_on, most_in_one, most_in_two, most_in_four}
+use Rattle.notation.specs.declared.Kind.{Kind}
+use Rattle.notation.specs.declared.Kind.TheVariants.{BarLine, Rest, Head}
 
 -- how a symbol begins: as a bar line, or as a rest, or else as a head
-unfoldable pub kind : List ℕ → Read ℕ
-kind xs = one_of (codes "bar" ∷ (codes "r" ∷ ([] ∷ []))) 0 xs xs
+unfoldable pub kind : List ℕ → Read Kind
+kind xs = one_of ((codes "bar", BarLine) ∷ ((codes "r", Rest) ∷ (([], Head) ∷ []))) xs xs
 
--- the signs from double flat on, and last none
+-- signs by their marks, from double flat on, and last none
 unfoldable pub sign_mark : List ℕ → Read ℕ
-sign_mark xs = one_of (codes "--" ∷ (codes "-" ∷ (codes "n" ∷ (codes "#" ∷ (codes "x" ∷ ([] ∷ [])))))) 0 xs xs
+sign_mark xs = one_of ((codes "--", 1) ∷ ((codes "-", 2) ∷ ((codes "n", 3) ∷ ((codes "#", 4) ∷ ((codes "x", 5) ∷ (([], 0) ∷ [])))))) xs xs
 
-abbrev pub sign_at : ℕ → ℕ
-sign_at i = pick (i == 5) 0 (i + 1)
-
--- the steps by their letters
+-- steps by their letters, from c on
 unfoldable pub step : List ℕ → Read ℕ
-step xs = one_of (codes "c" ∷ (codes "d" ∷ (codes "e" ∷ (codes "f" ∷ (codes "g" ∷ (codes "a" ∷ (codes "b" ∷ []))))))) 0 xs xs
+step xs =
+    one_of ((codes "c", 0) ∷ ((codes "d", 1) ∷ ((codes "e", 2) ∷ ((codes "f", 3) ∷ ((codes "g", 4) ∷ ((codes "a", 5) ∷ ((codes "b", 6) ∷ []))))))) xs xs
 
 -- a tie, or none
 abbrev pub tie_in : List ℕ → Read (Unit {0}) → Read Bool
@@ -40,23 +30,27 @@ tie_in xs (stuck ys) = got false xs
 abbrev pub tie : List ℕ → Read Bool
 tie xs = tie_in xs (strip (codes "~") xs)
 
--- a value behind its colon
+-- a number of ticks, and a value behind its colon
+abbrev pub ticks_on : List ℕ → Read ℕ
+ticks_on xs = number most_in_two xs
+
 abbrev pub value : List ℕ → Read ℕ
-value xs = then (strip (codes ":") xs) (λ _ ys. number most_in_two ys)
+value xs = then (strip (codes ":") xs) (λ _ ys. ticks_on ys)
 
 -- a head behind its sign, its step known: f4:96, or f4:48~
 abbrev pub head_on : ℕ → ℕ → List ℕ → Read Symbol
-head_on sign s xs =
-    then (number ((most_in_one - s) / 7) xs) (λ o ys. then (value ys) (λ v zs. then (tie zs) (λ t us. got (head (7 * o + s) sign v t) us)))
+head_on sign s xs = then (place_on s xs) (λ p ys. then (value ys) (λ v zs. then (tie zs) (λ t us. got (head p sign v t) us)))
 
 abbrev pub head_text : List ℕ → Read Symbol
-head_text xs = then (sign_mark xs) (λ i ys. then (step ys) (λ s zs. head_on (sign_at i) s zs))
+head_text xs = then (sign_mark xs) (λ sign ys. then (step ys) (λ s zs. head_on sign s zs))
 
 abbrev pub rest_text : List ℕ → Read Symbol
-rest_text xs = then (number most_in_two xs) (λ v ys. got (rest v) ys)
+rest_text xs = then (ticks_on xs) (λ v ys. got (rest v) ys)
 
-abbrev pub symbol_on : ℕ → List ℕ → Read Symbol
-symbol_on k xs = pick (k == 0) (got bar xs) (pick (k == 1) (rest_text xs) (head_text xs))
+abbrev pub symbol_on : Kind → List ℕ → Read Symbol
+symbol_on BarLine xs = got bar xs
+symbol_on Rest xs = rest_text xs
+symbol_on Head xs = head_text xs
 
 abbrev pub symbol_text : List ℕ → Read Symbol
 symbol_text xs = then (kind xs) (λ k ys. symbol_on k ys)

@@ -1,42 +1,60 @@
 //! Symbols, and notes as they are heard, read from the front of a text.
 #![tactic(auto)]
 
-ghost use Rattle.std.specs.Prelude.{◌≡◌, ◌<◌, ◌≤◌, IfOk};
+ghost use Rattle.std.specs.Prelude.{◌≡◌};
 ghost use Rattle.words.specs.Words.{outcome};
-ghost use Rattle.notation.specs.Notation.{kind, sign_mark, sign_at, step, tie, value, head_on, head_text, rest_text, symbol_on, symbol_text, heard_on, sound_text, symbol_read, sound_read};
+ghost use Rattle.notation.specs.Notation.{kind, sign_mark, step, tie, ticks_on, value, head_on, head_text, rest_text, symbol_on, symbol_text, sound_text, symbol_read, sound_read};
 
 use score::{Sound, Symbol};
-use words::{read_number, read_one_of, read_spaced, read_word};
+use words::{read_number, read_one_of, read_place, read_spaced, read_word};
+
+/// What a symbol is, by how it begins.
+#[derive(Clone, Copy, PartialEq, Eq, Debug)]
+pub enum Kind {
+    BarLine,
+    Rest,
+    Head,
+}
 
 /// Reads how a symbol begins: as a bar line, or as a rest, or else as a head.
-fn read_kind(text: &[u8]) -> Result<(usize, &[u8]), &[u8]>
+#[tactic(auto, unfolding(crate::specs::Notation::kind))]
+fn read_kind(text: &[u8]) -> Result<(Kind, &[u8]), &[u8]>
     ensures { outcome result ≡ kind text.now }
 {
-    read_one_of(text, &["bar", "r", ""])
+    read_one_of(
+        text,
+        &[("bar", Kind::BarLine), ("r", Kind::Rest), ("", Kind::Head)],
+    )
 }
 
-/// Reads a sign's mark, from double flat on; the last is none.
-fn read_mark(text: &[u8]) -> Result<(usize, &[u8]), &[u8]>
-    ensures read { outcome result ≡ sign_mark text.now }
-    ensures bound { IfOk result (λ v. v.0 < 6) }
+/// Reads a sign by its mark, or none.
+#[tactic(auto, unfolding(crate::specs::Notation::sign_mark))]
+fn read_mark(text: &[u8]) -> Result<(u8, &[u8]), &[u8]>
+    ensures { outcome result ≡ sign_mark text.now }
 {
-    read_one_of(text, &["--", "-", "n", "#", "x", ""])
+    read_one_of(
+        text,
+        &[("--", 1), ("-", 2), ("n", 3), ("#", 4), ("x", 5), ("", 0)],
+    )
 }
 
-/// The sign by its index among these.
-fn sign_at(i: usize) -> u8
-    requires { i < 6 }
-    ensures { result ≡ sign_at i }
+/// Reads a step by its letter.
+#[tactic(auto, unfolding(crate::specs::Notation::step))]
+fn read_step(text: &[u8]) -> Result<(u8, &[u8]), &[u8]>
+    ensures { outcome result ≡ step text.now }
 {
-    if i == 5 { 0 } else { i as u8 + 1 }
-}
-
-/// Reads the letter of a step.
-fn read_step(text: &[u8]) -> Result<(usize, &[u8]), &[u8]>
-    ensures read { outcome result ≡ step text.now }
-    ensures bound { IfOk result (λ v. v.0 < 7) }
-{
-    read_one_of(text, &["c", "d", "e", "f", "g", "a", "b"])
+    read_one_of(
+        text,
+        &[
+            ("c", 0),
+            ("d", 1),
+            ("e", 2),
+            ("f", 3),
+            ("g", 4),
+            ("a", 5),
+            ("b", 6),
+        ],
+    )
 }
 
 /// Reads a tie, or none.
@@ -49,25 +67,29 @@ fn read_tie(text: &[u8]) -> Result<(bool, &[u8]), &[u8]>
     }
 }
 
+/// Reads a number of ticks.
+fn read_ticks(text: &[u8]) -> Result<(u16, &[u8]), &[u8]>
+    ensures { outcome result ≡ ticks_on text.now }
+{
+    let (ticks, rest) = read_number(text, u16::MAX as u32)?;
+    Ok((ticks as u16, rest))
+}
+
 /// Reads a value behind its colon.
-fn read_value(text: &[u8]) -> Result<(u32, &[u8]), &[u8]>
-    ensures read { outcome result ≡ value text.now }
-    ensures bound { IfOk result (λ v. v.0 ≤ 65535) }
+fn read_value(text: &[u8]) -> Result<(u16, &[u8]), &[u8]>
+    ensures { outcome result ≡ value text.now }
 {
     let (_, rest) = read_word(text, b":")?;
-    read_number(rest, 65535)
+    read_ticks(rest)
 }
 
 /// Reads a head behind its step.
 fn read_head_on(text: &[u8], sign: u8, step: u8) -> Result<(Symbol, &[u8]), &[u8]>
-    requires { step < 7 }
     ensures { symbol_read (outcome result) ≡ head_on sign step text.now }
 {
-    let (octave, rest) = read_number(text, (255 - step as u32) / 7)?;
+    let (place, rest) = read_place(text, step)?;
     let (value, rest) = read_value(rest)?;
     let (tied, rest) = read_tie(rest)?;
-    let place = 7 * octave as u8 + step;
-    let value = value as u16;
     Ok((
         Symbol::Head {
             place,
@@ -83,17 +105,16 @@ fn read_head_on(text: &[u8], sign: u8, step: u8) -> Result<(Symbol, &[u8]), &[u8
 fn read_head(text: &[u8]) -> Result<(Symbol, &[u8]), &[u8]>
     ensures { symbol_read (outcome result) ≡ head_text text.now }
 {
-    let (mark, rest) = read_mark(text)?;
+    let (sign, rest) = read_mark(text)?;
     let (step, rest) = read_step(rest)?;
-    read_head_on(rest, sign_at(mark), step as u8)
+    read_head_on(rest, sign, step)
 }
 
 /// Reads a rest behind its letter.
 fn read_rest(text: &[u8]) -> Result<(Symbol, &[u8]), &[u8]>
     ensures { symbol_read (outcome result) ≡ rest_text text.now }
 {
-    let (value, rest) = read_number(text, 65535)?;
-    let value = value as u16;
+    let (value, rest) = read_ticks(text)?;
     Ok((Symbol::Rest { value }, rest))
 }
 
@@ -103,9 +124,9 @@ pub fn read_symbol(text: &[u8]) -> Result<(Symbol, &[u8]), &[u8]>
 {
     let (kind, rest) = read_kind(text)?;
     match kind {
-        0 => Ok((Symbol::BarLine, rest)),
-        1 => read_rest(rest),
-        _ => read_head(rest),
+        Kind::BarLine => Ok((Symbol::BarLine, rest)),
+        Kind::Rest => read_rest(rest),
+        Kind::Head => read_head(rest),
     }
 }
 
@@ -113,10 +134,10 @@ pub fn read_symbol(text: &[u8]) -> Result<(Symbol, &[u8]), &[u8]>
 pub fn read_sound(text: &[u8]) -> Result<(Sound, &[u8]), &[u8]>
     ensures { sound_read (outcome result) ≡ sound_text text.now }
 {
-    let (voice, rest) = read_number(text, 255)?;
+    let (voice, rest) = read_number(text, u8::MAX as u32)?;
     let (start, rest) = read_spaced(rest, u32::MAX)?;
-    let (length, rest) = read_spaced(rest, 65535)?;
-    let (tone, rest) = read_spaced(rest, 255)?;
+    let (length, rest) = read_spaced(rest, u16::MAX as u32)?;
+    let (tone, rest) = read_spaced(rest, u8::MAX as u32)?;
     let voice = voice as u8;
     let length = length as u16;
     let tone = tone as u8;

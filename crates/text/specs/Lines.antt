@@ -1,103 +1,93 @@
 -- What a line of text says: an event, a call, a setting. Assumes nothing: these are definitions.
-use Rattle.std.specs.Prelude.{ℕ, ◌+◌, ◌-◌, ◌*◌, ◌/◌, List, [], ◌∷◌, length, Ok, Err, codes, Result, ◌==◌, nat_lt}
-use Rattle.score.specs.Music.{pick, Event, note, silence}
+use Rattle.std.specs.Prelude.{ℕ, ◌-◌, List, [], ◌∷◌, length, Ok, Err, codes, Result}
+use Rattle.score.specs.Music.{Event, note, silence}
 use Rattle.score.specs.Calls.{Call, put, cut, change, show, heard_in, how_long}
 use Rattle.score.specs.Meaning.{event_meant, call_meant}
 use Rattle.score.specs.declared.Event.{Event as EventType}
 use Rattle.score.specs.declared.Call.{Call as CallType}
-use Rattle.words.specs.Words.{Read, got, stuck, then, strip, one_of, number, spaced_number}
+use Rattle.words.specs.Words.{Read, got, stuck, then, strip, one_of, spaced_number, place_on, most_in_two, most_in_four}
 use Rattle.text.specs.declared.Unfit.{Unfit}
+use Rattle.text.specs.declared.Beginning.{Beginning}
+use Rattle.text.specs.declared.Beginning.TheVariants.{Step, Silence}
+use Rattle.text.specs.declared.Verb.{Verb}
+use Rattle.text.specs.declared.Verb.TheVariants.{Put, Cut, Change, Show, HeardIn, HowLong}
 
--- the largest numbers that fields of one, two and four bytes carry
-abbrev pub most_in_one : ℕ
-most_in_one = 255
-
-abbrev pub most_in_two : ℕ
-most_in_two = 65535
-
-abbrev pub most_in_four : ℕ
-most_in_four = 4294967295
-
--- how an event begins: with one of the steps in their order, or as a silence, the last
-unfoldable pub beginning : List ℕ → Read ℕ
+-- how an event begins: with one of the steps, from c on, or as a silence
+unfoldable pub beginning : List ℕ → Read Beginning
 beginning xs =
-    one_of (codes "c" ∷ (codes "d" ∷ (codes "e" ∷ (codes "f" ∷ (codes "g" ∷ (codes "a" ∷ (codes "b" ∷ (codes "silence" ∷ [])))))))) 0 xs xs
+    one_of
+    ((codes "c", Step 0) ∷ ((codes "d", Step 1) ∷ ((codes "e", Step 2) ∷ ((codes "f", Step 3) ∷ ((codes "g", Step 4) ∷ ((codes "a", Step 5) ∷ ((codes "b", Step 6) ∷
+    ((codes "silence", Silence) ∷ [])))))))) xs xs
 
--- alterations but for none, in their order
+-- alterations but for none, by their numbers
 unfoldable pub alteration_word : List ℕ → Read ℕ
-alteration_word xs = one_of (codes "double flat " ∷ (codes "flat " ∷ (codes "sharp " ∷ (codes "double sharp " ∷ [])))) 0 xs xs
-
-abbrev pub alteration_at : ℕ → ℕ
-alteration_at i = pick (i == 0) 0 (pick (i == 1) 1 (pick (i == 2) 3 4))
+alteration_word xs = one_of ((codes "double flat ", 0) ∷ ((codes "flat ", 1) ∷ ((codes "sharp ", 3) ∷ ((codes "double sharp ", 4) ∷ [])))) xs xs
 
 -- a space leads to an alteration; else there is none
 abbrev pub alteration_in : List ℕ → Read (Unit {0}) → Read ℕ
-alteration_in xs (got t ys) = then (alteration_word ys) (λ i zs. got (alteration_at i) zs)
+alteration_in xs (got t ys) = alteration_word ys
 alteration_in xs (stuck ys) = got 2 xs
 
 abbrev pub alteration : List ℕ → Read ℕ
 alteration xs = alteration_in xs (strip (codes " ") xs)
 
+abbrev pub length_on : List ℕ → Read ℕ
+length_on xs = spaced_number most_in_two xs
+
 -- a note behind its step: c4 48, or f sharp 4 96
 abbrev pub note_on : ℕ → List ℕ → Read Event
-note_on s xs =
-    then (alteration xs) (λ a ys. then (number ((most_in_one - s) / 7) ys) (λ o zs.
-    then (spaced_number most_in_two zs) (λ d rest. got (note (7 * o + s) a d) rest)))
+note_on step xs = then (alteration xs) (λ a ys. then (place_on step ys) (λ p zs. then (length_on zs) (λ d rest. got (note p a d) rest)))
 
 abbrev pub silence_on : List ℕ → Read Event
-silence_on xs = then (spaced_number most_in_two xs) (λ d rest. got (silence d) rest)
+silence_on xs = then (length_on xs) (λ d rest. got (silence d) rest)
+
+abbrev pub event_on : Beginning → List ℕ → Read Event
+event_on (Step step) xs = note_on step xs
+event_on Silence xs = silence_on xs
 
 abbrev pub event : List ℕ → Read Event
-event xs = then (beginning xs) (λ i ys. pick (nat_lt i 7) (note_on i ys) (silence_on ys))
+event xs = then (beginning xs) (λ b ys. event_on b ys)
 
 abbrev pub event_read : Read EventType → Read Event
 event_read (got e xs) = got (event_meant e) xs
 event_read (stuck xs) = stuck xs
 
 -- which call a line is, by its first word
-unfoldable pub verb : List ℕ → Read ℕ
+unfoldable pub verb : List ℕ → Read Verb
 verb xs =
-    one_of (codes "put" ∷ (codes "cut" ∷ (codes "change" ∷ (codes "show" ∷ (codes "heard in" ∷ (codes "how long" ∷ [])))))) 0 xs xs
+    one_of
+    ((codes "put", Put) ∷ ((codes "cut", Cut) ∷ ((codes "change", Change) ∷ ((codes "show", Show) ∷ ((codes "heard in", HeardIn) ∷ ((codes "how long", HowLong) ∷ [])))))) xs xs
 
--- a field of a call
+-- a field of a call, and two of them
 abbrev pub field : List ℕ → Read ℕ
 field xs = spaced_number most_in_four xs
 
+abbrev pub pair_on : List ℕ → Read (ℕ × ℕ)
+pair_on xs = then (field xs) (λ a ys. then (field ys) (λ b rest. got (a, b) rest))
+
 -- a voice, an index and an event
 abbrev pub edit_on : List ℕ → Read (ℕ × ℕ × Event)
-edit_on xs =
-    then (field xs) (λ v ys. then (field ys) (λ i zs.
-    then (strip (codes " ") zs) (λ _ us. then (event us) (λ e rest. got (v, i, e) rest))))
+edit_on xs = then (pair_on xs) (λ p ys. then (strip (codes " ") ys) (λ _ zs. then (event zs) (λ e rest. got (p.0, p.1, e) rest)))
 
 abbrev pub edit_read : Read (ℕ × ℕ × EventType) → Read (ℕ × ℕ × Event)
 edit_read (got e xs) = got (e.0, e.1, event_meant e.2) xs
 edit_read (stuck xs) = stuck xs
 
-abbrev pub put_on : List ℕ → Read Call
-put_on xs = then (edit_on xs) (λ e rest. got (put e.0 e.1 e.2) rest)
+-- a voice, a bar and how many bars
+abbrev pub bars_on : List ℕ → Read (ℕ × ℕ × ℕ)
+bars_on xs = then (pair_on xs) (λ p ys. then (field ys) (λ n rest. got (p.0, p.1, n) rest))
 
-abbrev pub change_on : List ℕ → Read Call
-change_on xs = then (edit_on xs) (λ e rest. got (change e.0 e.1 e.2) rest)
-
-abbrev pub cut_on : List ℕ → Read Call
-cut_on xs = then (field xs) (λ v ys. then (field ys) (λ i rest. got (cut v i) rest))
-
-abbrev pub show_on : List ℕ → Read Call
-show_on xs = then (field xs) (λ v ys. then (field ys) (λ b zs. then (field zs) (λ n rest. got (show v b n) rest)))
-
-abbrev pub heard_on : List ℕ → Read Call
-heard_on xs = then (field xs) (λ a ys. then (field ys) (λ b rest. got (heard_in a b) rest))
-
-abbrev pub long_on : List ℕ → Read Call
-long_on xs = then (field xs) (λ v rest. got (how_long v) rest)
-
-abbrev pub call_on : ℕ → List ℕ → Read Call
-call_on i xs =
-    pick (i == 0) (put_on xs) (pick (i == 1) (cut_on xs) (pick (i == 2) (change_on xs)
-    (pick (i == 3) (show_on xs) (pick (i == 4) (heard_on xs) (long_on xs)))))
+-- a call behind its first word
+abbrev pub call_on : Verb → List ℕ → Read Call
+call_on Put xs = then (edit_on xs) (λ e rest. got (put e.0 e.1 e.2) rest)
+call_on Cut xs = then (pair_on xs) (λ p rest. got (cut p.0 p.1) rest)
+call_on Change xs = then (edit_on xs) (λ e rest. got (change e.0 e.1 e.2) rest)
+call_on Show xs = then (bars_on xs) (λ b rest. got (show b.0 b.1 b.2) rest)
+call_on HeardIn xs = then (pair_on xs) (λ p rest. got (heard_in p.0 p.1) rest)
+call_on HowLong xs = then (field xs) (λ v rest. got (how_long v) rest)
 
 abbrev pub call_words : List ℕ → Read Call
-call_words xs = then (verb xs) (λ i ys. call_on i ys)
+call_words xs = then (verb xs) (λ v ys. call_on v ys)
 
 abbrev pub call_read : Read CallType → Read Call
 call_read (got c xs) = got (call_meant c) xs

@@ -1,66 +1,118 @@
 //! What a line of text says: an event, a call, a setting.
 #![tactic(auto)]
 
-ghost use Rattle.std.specs.Prelude.{◌≡◌, ◌<◌, ◌≤◌};
-ghost use Rattle.text.specs.Lines.{alteration, alteration_at, alteration_word, beginning, event, event_read, note_on, verb, field, edit_on, edit_read, put_on, change_on, cut_on, show_on, heard_on, long_on, call_on, call_words, call_read, named, whole, call_line, event_line, setting_line, said};
+ghost use Rattle.std.specs.Prelude.{◌≡◌, Some};
+ghost use Rattle.text.specs.Lines.{alteration, alteration_word, beginning, event, event_read, note_on, length_on, verb, field, edit_on, edit_read, pair_on, bars_on, call_on, call_words, call_read, named, whole, call_line, event_line, setting_line, said};
+ghost use Rattle.score.specs.Calls.{refused};
+ghost use Rattle.score.specs.Spelling.{spelled_answer};
 ghost use Rattle.score.specs.Meaning.{call_meant, event_meant};
 ghost use Rattle.words.specs.Words.{outcome};
 
 use score::{Call, Event};
-use words::{read_number, read_one_of, read_spaced, read_word};
+use std::error::Error;
+use std::fmt;
+use words::{read_one_of, read_place, read_spaced, read_word};
+
+/// The number under which a line that cannot be read stands in the list of refusals.
+const UNREADABLE: u8 = 1;
 
 /// The first byte of a line that does not fit, or its length where it ends too early.
+#[derive(Clone, Copy, PartialEq, Eq, Debug)]
 pub struct Unfit {
     pub at: usize,
 }
 
-/// Reads how an event begins: with one of the steps in their order, or as a silence, the last.
-fn read_beginning(line: &[u8]) -> Result<(usize, &[u8]), &[u8]>
+/// As what answers a line that is no call: `refused 1 at 4`.
+impl fmt::Display for Unfit {
+    ghost output = { λ u. Some (spelled_answer (refused 1 u.at)) };
+
+    fn fmt<W: fmt::Write>(&self, f: &mut fmt::Formatter<W>) -> fmt::Result {
+        let at = self.at;
+        write!(f, "refused {UNREADABLE} at {at}")
+    }
+}
+
+impl Error for Unfit {}
+
+/// How an event begins.
+#[derive(Clone, Copy, PartialEq, Eq, Debug)]
+pub enum Beginning {
+    Step(u8),
+    Silence,
+}
+
+/// Which call a line is.
+#[derive(Clone, Copy, PartialEq, Eq, Debug)]
+pub enum Verb {
+    Put,
+    Cut,
+    Change,
+    Show,
+    HeardIn,
+    HowLong,
+}
+
+/// Reads how an event begins: with a step, or as a silence.
+#[tactic(auto, unfolding(crate::specs::Lines::beginning))]
+fn read_beginning(line: &[u8]) -> Result<(Beginning, &[u8]), &[u8]>
     ensures { outcome result ≡ beginning line.now }
 {
-    read_one_of(line, &["c", "d", "e", "f", "g", "a", "b", "silence"])
+    read_one_of(
+        line,
+        &[
+            ("c", Beginning::Step(0)),
+            ("d", Beginning::Step(1)),
+            ("e", Beginning::Step(2)),
+            ("f", Beginning::Step(3)),
+            ("g", Beginning::Step(4)),
+            ("a", Beginning::Step(5)),
+            ("b", Beginning::Step(6)),
+            ("silence", Beginning::Silence),
+        ],
+    )
 }
 
-/// Reads one of the alterations but for none, in their order.
-fn read_alteration_word(line: &[u8]) -> Result<(usize, &[u8]), &[u8]>
+/// Reads one of the alterations but for none.
+#[tactic(auto, unfolding(crate::specs::Lines::alteration_word))]
+fn read_alteration_word(line: &[u8]) -> Result<(u8, &[u8]), &[u8]>
     ensures { outcome result ≡ alteration_word line.now }
 {
-    read_one_of(line, &["double flat ", "flat ", "sharp ", "double sharp "])
-}
-
-/// The alteration by its index among these.
-fn alteration_at(i: usize) -> u8
-    ensures { result ≡ alteration_at i }
-{
-    match i {
-        0 => 0,
-        1 => 1,
-        2 => 3,
-        _ => 4,
-    }
+    read_one_of(
+        line,
+        &[
+            ("double flat ", 0),
+            ("flat ", 1),
+            ("sharp ", 3),
+            ("double sharp ", 4),
+        ],
+    )
 }
 
 /// Reads how a note is altered: a space leads to an alteration, else there is none.
 fn read_alteration(line: &[u8]) -> Result<(u8, &[u8]), &[u8]>
     ensures { outcome result ≡ alteration line.now }
 {
-    let Ok((_, rest)) = read_word(line, b" ") else {
-        return Ok((2, line));
-    };
-    let (i, rest) = read_alteration_word(rest)?;
-    Ok((alteration_at(i), rest))
+    match read_word(line, b" ") {
+        Ok((_, rest)) => read_alteration_word(rest),
+        Err(_) => Ok((2, line)),
+    }
+}
+
+/// Reads a length.
+fn read_length(line: &[u8]) -> Result<(u16, &[u8]), &[u8]>
+    ensures { outcome result ≡ length_on line.now }
+{
+    let (length, rest) = read_spaced(line, u16::MAX as u32)?;
+    Ok((length as u16, rest))
 }
 
 /// Reads a note behind its step.
 fn read_note(line: &[u8], step: u8) -> Result<(Event, &[u8]), &[u8]>
-    requires { step < 7 }
     ensures { event_read (outcome result) ≡ note_on step line.now }
 {
     let (alteration, rest) = read_alteration(line)?;
-    let (octave, rest) = read_number(rest, (255 - step as u32) / 7)?;
-    let (length, rest) = read_spaced(rest, 65535)?;
-    let place = 7 * octave as u8 + step;
-    let length = length as u16;
+    let (place, rest) = read_place(rest, step)?;
+    let (length, rest) = read_length(rest)?;
     Ok((
         Event::Note {
             place,
@@ -75,22 +127,31 @@ fn read_note(line: &[u8], step: u8) -> Result<(Event, &[u8]), &[u8]>
 pub fn read_event(line: &[u8]) -> Result<(Event, &[u8]), &[u8]>
     ensures { event_read (outcome result) ≡ event line.now }
 {
-    let (i, rest) = read_beginning(line)?;
-    if i < 7 {
-        return read_note(rest, i as u8);
+    let (beginning, rest) = read_beginning(line)?;
+    match beginning {
+        Beginning::Step(step) => read_note(rest, step),
+        Beginning::Silence => {
+            let (length, rest) = read_length(rest)?;
+            Ok((Event::Silence { length }, rest))
+        }
     }
-    let (length, rest) = read_spaced(rest, 65535)?;
-    let length = length as u16;
-    Ok((Event::Silence { length }, rest))
 }
 
 /// Reads which call a line is, by its first word.
-fn read_verb(line: &[u8]) -> Result<(usize, &[u8]), &[u8]>
+#[tactic(auto, unfolding(crate::specs::Lines::verb))]
+fn read_verb(line: &[u8]) -> Result<(Verb, &[u8]), &[u8]>
     ensures { outcome result ≡ verb line.now }
 {
     read_one_of(
         line,
-        &["put", "cut", "change", "show", "heard in", "how long"],
+        &[
+            ("put", Verb::Put),
+            ("cut", Verb::Cut),
+            ("change", Verb::Change),
+            ("show", Verb::Show),
+            ("heard in", Verb::HeardIn),
+            ("how long", Verb::HowLong),
+        ],
     )
 }
 
@@ -101,88 +162,70 @@ fn read_field(line: &[u8]) -> Result<(u32, &[u8]), &[u8]>
     read_spaced(line, u32::MAX)
 }
 
+/// Reads two fields: a voice and an index, or from where to where.
+fn read_pair(line: &[u8]) -> Result<((u32, u32), &[u8]), &[u8]>
+    ensures { outcome result ≡ pair_on line.now }
+{
+    let (first, rest) = read_field(line)?;
+    let (second, rest) = read_field(rest)?;
+    Ok(((first, second), rest))
+}
+
 /// Reads a voice, an index and an event.
 fn read_edit(line: &[u8]) -> Result<((u32, u32, Event), &[u8]), &[u8]>
     ensures { edit_read (outcome result) ≡ edit_on line.now }
 {
-    let (voice, rest) = read_field(line)?;
-    let (index, rest) = read_field(rest)?;
+    let ((voice, index), rest) = read_pair(line)?;
     let (_, rest) = read_word(rest, b" ")?;
     let (event, rest) = read_event(rest)?;
     Ok(((voice, index, event), rest))
 }
 
-fn read_put(line: &[u8]) -> Result<(Call, &[u8]), &[u8]>
-    ensures { call_read (outcome result) ≡ put_on line.now }
+/// Reads a voice, a bar and how many bars.
+fn read_bars(line: &[u8]) -> Result<((u32, u32, u32), &[u8]), &[u8]>
+    ensures { outcome result ≡ bars_on line.now }
 {
-    let ((voice, index, event), rest) = read_edit(line)?;
-    Ok((
-        Call::Put {
-            voice,
-            index,
-            event,
-        },
-        rest,
-    ))
-}
-
-fn read_change(line: &[u8]) -> Result<(Call, &[u8]), &[u8]>
-    ensures { call_read (outcome result) ≡ change_on line.now }
-{
-    let ((voice, index, event), rest) = read_edit(line)?;
-    Ok((
-        Call::Change {
-            voice,
-            index,
-            event,
-        },
-        rest,
-    ))
-}
-
-fn read_cut(line: &[u8]) -> Result<(Call, &[u8]), &[u8]>
-    ensures { call_read (outcome result) ≡ cut_on line.now }
-{
-    let (voice, rest) = read_field(line)?;
-    let (index, rest) = read_field(rest)?;
-    Ok((Call::Cut { voice, index }, rest))
-}
-
-fn read_show(line: &[u8]) -> Result<(Call, &[u8]), &[u8]>
-    ensures { call_read (outcome result) ≡ show_on line.now }
-{
-    let (voice, rest) = read_field(line)?;
-    let (bar, rest) = read_field(rest)?;
+    let ((voice, bar), rest) = read_pair(line)?;
     let (count, rest) = read_field(rest)?;
-    Ok((Call::Show { voice, bar, count }, rest))
-}
-
-fn read_heard_in(line: &[u8]) -> Result<(Call, &[u8]), &[u8]>
-    ensures { call_read (outcome result) ≡ heard_on line.now }
-{
-    let (from, rest) = read_field(line)?;
-    let (to, rest) = read_field(rest)?;
-    Ok((Call::HeardIn { from, to }, rest))
-}
-
-fn read_how_long(line: &[u8]) -> Result<(Call, &[u8]), &[u8]>
-    ensures { call_read (outcome result) ≡ long_on line.now }
-{
-    let (voice, rest) = read_field(line)?;
-    Ok((Call::HowLong { voice }, rest))
+    Ok(((voice, bar, count), rest))
 }
 
 /// Reads a call behind its first word.
-fn read_fields(line: &[u8], verb: usize) -> Result<(Call, &[u8]), &[u8]>
+fn read_fields(line: &[u8], verb: Verb) -> Result<(Call, &[u8]), &[u8]>
     ensures { call_read (outcome result) ≡ call_on verb line.now }
 {
     match verb {
-        0 => read_put(line),
-        1 => read_cut(line),
-        2 => read_change(line),
-        3 => read_show(line),
-        4 => read_heard_in(line),
-        _ => read_how_long(line),
+        Verb::Put => read_edit(line).map(|((voice, index, event), rest)| {
+            (
+                Call::Put {
+                    voice,
+                    index,
+                    event,
+                },
+                rest,
+            )
+        }),
+        Verb::Cut => {
+            read_pair(line).map(|((voice, index), rest)| (Call::Cut { voice, index }, rest))
+        }
+        Verb::Change => read_edit(line).map(|((voice, index, event), rest)| {
+            (
+                Call::Change {
+                    voice,
+                    index,
+                    event,
+                },
+                rest,
+            )
+        }),
+        Verb::Show => read_bars(line).map(|((voice, bar, count), rest)| (
+            Call::Show { voice, bar, count },
+            rest,
+        )),
+        Verb::HeardIn => {
+            read_pair(line).map(|((from, to), rest)| (Call::HeardIn { from, to }, rest))
+        }
+        Verb::HowLong => read_field(line).map(|(voice, rest)| (Call::HowLong { voice }, rest)),
     }
 }
 

@@ -1,19 +1,21 @@
 -- Events are read back from their text. Assumes nothing.
-use Rattle.std.proofs.Common.{◌≡◌, ℕ, ◌+◌, ◌-◌, ◌*◌, ◌/◌, ◌%◌, ◌<◌, ◌≤◌, true, false, ◌&&◌, eqb, ltb, List, [], ◌∷◌, ◌++◌, codes, decimal, sym, refl, ap, ◌∙◌, append_assoc, mod-lt, arith}
+use Rattle.std.proofs.Common.{◌≡◌, ℕ, ◌/◌, ◌%◌, ◌<◌, ◌≤◌, true, false, ◌&&◌, eqb, ltb, List, [], ◌∷◌, ◌++◌, codes, decimal, sym, refl, ap, ◌∙◌, append_assoc, mod-lt, arith}
 use Rattle.std.proofs.lemmas.List.{append-nil}
-use Rattle.std.proofs.lemmas.Bool.{and_parts, ltb-true, lt-ltb, ne_eqb}
-use Rattle.score.specs.Music.{pick, Event, note, silence, places, alterations, length_end, fine_length, fine}
-use Rattle.score.proofs.Picks.{pick_true, pick_false}
-use Rattle.words.specs.Words.{Read, got, then, begins_with_digit, strip, one_of, number, spaced_number}
-use Rattle.text.specs.Lines.{most_in_one, most_in_two, beginning, alteration_word, alteration_in, alteration, note_on, silence_on, event, whole}
+use Rattle.std.proofs.lemmas.Bool.{and_parts, ltb-true, ne_eqb}
+use Rattle.score.specs.Music.{Event, note, silence, places, alterations, length_end, fine_length, fine}
+use Rattle.score.proofs.Picks.{pick_false}
+use Rattle.words.specs.Words.{Read, got, then, begins_with_digit, strip, one_of, place_on, most_in_two}
+use Rattle.text.specs.declared.Beginning.{Beginning}
+use Rattle.text.specs.declared.Beginning.TheVariants.{Step}
+use Rattle.text.specs.Lines.{beginning, alteration_word, alteration_in, alteration, length_on, note_on, event_on, event, whole}
 use Rattle.score.specs.Spelling.{letter, alteration_name, spelled_event}
 use Rattle.text_laws.specs.Back.{EventsBack}
 use Rattle.text_laws.proofs.Cases.{five, seven, digit_range}
-use Rattle.text_laws.proofs.Numbers.{decimal_digit, numbers_back, spaced_back}
+use Rattle.text_laws.proofs.Numbers.{decimal_digit, spaced_back, place_back}
 
-step_read : (s : ℕ) (xs : List ℕ) → s < 7 → beginning (letter s ++ xs) ≡ got s xs
+step_read : (s : ℕ) (xs : List ℕ) → s < 7 → beginning (letter s ++ xs) ≡ got (Step s) xs
 unfolding beginning one_of strip
-step_read s xs h = seven (λ n. beginning (letter n ++ xs) ≡ got n xs) refl refl refl refl refl refl refl s h
+step_read s xs h = seven (λ n. beginning (letter n ++ xs) ≡ got (Step n) xs) refl refl refl refl refl refl refl s h
 
 -- digits, and no space, follow a step that is not altered
 unaltered : (xs : List ℕ) → begins_with_digit xs ≡ true → alteration xs ≡ got 2 xs
@@ -38,23 +40,14 @@ note_fields p a d h =
     let g = and_parts (ltb p places) (ltb a alterations) f.0 in
     (ltb-true p places g.0, ltb-true a alterations g.1, short_length d f.1)
 
--- what a note's length leads to, its place and alteration known
-abbrev last : ℕ → ℕ → ℕ → List ℕ → Read Event
-last s a o xs = then (spaced_number most_in_two xs) (λ d more. got (note (7 * o + s) a d) more)
-
 note_read : (p a d : ℕ) (more : List ℕ) → p < places → a < alterations → d ≤ most_in_two → begins_with_digit more ≡ false →
     note_on (p % 7) (alteration_name a ++ (decimal (p / 7) ++ (codes " " ++ (decimal d ++ more)))) ≡ got (note p a d) more
 unfolding begins_with_digit
 note_read p a d more hp ha hd e =
-    let s : ℕ = p % 7 in
-    let o : ℕ = p / 7 in
-    let low : s < 7 = mod-lt p (omega arith) in
     let tail : List ℕ = codes " " ++ (decimal d ++ more) in
-    let z : 7 * o + s ≡ p = omega arith in
-    ap (λ (r : Read ℕ). then r (λ b ys. then (number ((most_in_one - s) / 7) ys) (λ q zs. last s b q zs))) (alteration_read a (decimal o ++ tail) ha (decimal_digit o tail (omega arith)))
-    ∙ ap (λ (r : Read ℕ). then r (λ q zs. last s a q zs)) (numbers_back ((most_in_one - s) / 7) o tail (omega arith) (omega arith) refl)
-    ∙ ap (λ (r : Read ℕ). then r (λ l us. got (note (7 * o + s) a l) us)) (spaced_back most_in_two d more hd (omega arith) e)
-    ∙ ap (λ q. got (note q a d) more) z
+    ap (λ (r : Read ℕ). then r (λ b ys. then (place_on (p % 7) ys) (λ q zs. then (length_on zs) (λ l us. got (note q b l) us)))) (alteration_read a (decimal (p / 7) ++ tail) ha (decimal_digit (p / 7) tail (omega arith)))
+    ∙ ap (λ (r : Read ℕ). then r (λ q zs. then (length_on zs) (λ l us. got (note q a l) us))) (place_back p tail hp refl)
+    ∙ ap (λ (r : Read ℕ). then r (λ l us. got (note p a l) us)) (spaced_back most_in_two d more hd (omega arith) e)
 
 silence_read : (d : ℕ) (more : List ℕ) → d ≤ most_in_two → begins_with_digit more ≡ false → event (codes "silence " ++ (decimal d ++ more)) ≡ got (silence d) more
 unfolding beginning one_of strip
@@ -72,8 +65,7 @@ event_read (note p a d) more h n =
     ∙ ap (λ (xs : List ℕ). letter s ++ xs)
     (append_assoc (alteration_name a) (decimal (p / 7) ++ (codes " " ++ decimal d)) more
     ∙ ap (λ (xs : List ℕ). alteration_name a ++ xs) (append_assoc (decimal (p / 7)) (codes " " ++ decimal d) more)))
-    ∙ ap (λ (r : Read ℕ). then r (λ i ys. pick (ltb i 7) (note_on i ys) (silence_on ys))) (step_read s tail low)
-    ∙ pick_true _ _ _ (lt-ltb s 7 low)
+    ∙ ap (λ (r : Read Beginning). then r (λ b ys. event_on b ys)) (step_read s tail low)
     ∙ note_read p a d more f.0 f.1 f.2 n
 event_read (silence d) more h n = silence_read d more (short_length d h) n
 

@@ -1,8 +1,9 @@
 -- Numbers are read back from their digits. Assumes nothing.
-use Rattle.std.proofs.Common.{◌≡◌, ℕ, ◌+◌, ◌*◌, ◌/◌, ◌%◌, ◌^◌, ◌<◌, ◌≤◌, true, false, List, [], ◌∷◌, ◌++◌, codes, decimal, refl, ap, ◌∙◌, append_assoc, arith}
+use Rattle.std.proofs.Common.{◌≡◌, ℕ, ◌+◌, ◌-◌, ◌*◌, ◌/◌, ◌%◌, ◌^◌, ◌<◌, ◌≤◌, true, false, List, [], ◌∷◌, ◌++◌, codes, decimal, refl, ap, ◌∙◌, append_assoc, mod-lt, arith}
 use Rattle.std.proofs.lemmas.Fmt.{decimal_by_steps}
 use Rattle.score.proofs.Picks.{pick_true}
-use Rattle.words.specs.Words.{got, begins_with_digit, number_on, number, strip, spaced_number}
+use Rattle.score.specs.Music.{places}
+use Rattle.words.specs.Words.{Read, got, then, begins_with_digit, number_on, number, strip, spaced_number, place_on, most_in_one}
 use Rattle.words.proofs.Steps.{digit_is, digit_fits, digits_over}
 use Rattle.text_laws.specs.Back.{NumbersBack}
 
@@ -44,3 +45,13 @@ numbers_back most n more l h e =
 pub spaced_back : (most n : ℕ) (more : List ℕ) → n ≤ most → n < 2 ^ 64 → begins_with_digit more ≡ false → spaced_number most (codes " " ++ (decimal n ++ more)) ≡ got n more
 unfolding strip
 spaced_back most n more l h e = numbers_back most n more l h e
+
+-- a place is read back from its octave behind its step
+pub place_back : (p : ℕ) (more : List ℕ) → p < places → begins_with_digit more ≡ false → place_on (p % 7) (decimal (p / 7) ++ more) ≡ got p more
+place_back p more h e =
+    let s : ℕ = p % 7 in
+    let o : ℕ = p / 7 in
+    let low : s < 7 = mod-lt p (omega arith) in
+    let z : 7 * o + s ≡ p = omega arith in
+    ap (λ (r : Read ℕ). then r (λ q ys. got (7 * q + s) ys)) (numbers_back ((most_in_one - s) / 7) o more (omega arith) (omega arith) e)
+    ∙ ap (λ q. got q more) z

@@ -3,8 +3,8 @@ use Rattle.std.proofs.Common.{◌≡◌, ℕ, ◌≤◌, false, ltb, List, ◌++
 use Rattle.std.proofs.lemmas.Bool.{and_parts, ltb-true}
 use Rattle.score.specs.Music.{length_end}
 use Rattle.score.specs.Promise.{field}
-use Rattle.words.specs.Words.{Read, got, then, begins_with_digit, spaced_number}
-use Rattle.notation.specs.Notation.{most_in_one, most_in_two, most_in_four, heard_on, sound_text}
+use Rattle.words.specs.Words.{Read, got, then, begins_with_digit, spaced_number, most_in_one, most_in_two, most_in_four}
+use Rattle.notation.specs.Notation.{heard_on, sound_text}
 use Rattle.text_laws.specs.Back.{SoundsBack}
 use Rattle.text_laws.proofs.Numbers.{numbers_back, spaced_back}
 

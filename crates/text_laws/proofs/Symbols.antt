@@ -1,47 +1,41 @@
 -- Symbols are read back from their text. Assumes nothing.
-use Rattle.std.proofs.Common.{◌≡◌, ℕ, ◌+◌, ◌-◌, ◌*◌, ◌/◌, ◌%◌, ◌<◌, ◌≤◌, Bool, true, false, not, ◌&&◌, ◌||◌, eqb, ltb, leb, List, [], ◌∷◌, ◌++◌, codes, decimal, sym, refl, ap, ◌∙◌, append_assoc, mod-lt, arith}
+use Rattle.std.proofs.Common.{◌≡◌, ℕ, ◌/◌, ◌%◌, ◌<◌, ◌≤◌, Bool, true, false, not, ◌&&◌, ◌||◌, eqb, ltb, leb, List, [], ◌∷◌, ◌++◌, codes, decimal, sym, refl, ap, ◌∙◌, append_assoc, mod-lt, arith}
 use Rattle.std.proofs.lemmas.Bool.{and_parts, ltb-true, leb-true, eqb-false, ne_eqb}
 use Rattle.score.specs.Music.{pick, places, length_end}
 use Rattle.score.specs.Print.{bar, head, rest}
 use Rattle.score.proofs.Picks.{pick_false}
-use Rattle.words.specs.Words.{Read, got, stuck, then, or_else, is_digit, begins_with_digit, strip, one_of}
+use Rattle.words.specs.Words.{Read, got, stuck, then, or_else, is_digit, begins_with_digit, strip, one_of, most_in_two}
 use Rattle.score.specs.Spelling.{letter, mark}
-use Rattle.notation.specs.Notation.{most_in_one, most_in_two, kind, sign_mark, sign_at, step, tie_in, tie, value, head_on, symbol_on, symbol_text}
+use Rattle.notation.specs.declared.Kind.{Kind}
+use Rattle.notation.specs.declared.Kind.TheVariants.{BarLine, Head}
+use Rattle.notation.specs.Notation.{kind, sign_mark, step, tie_in, tie, value, head_on, symbol_on, symbol_text}
 use Rattle.text_laws.specs.Back.{ended, SymbolsBack}
 use Rattle.text_laws.proofs.Cases.{six, seven, digit_range}
-use Rattle.text_laws.proofs.Numbers.{decimal_digit, numbers_back}
-
--- a sign's index among the marks as they are read
-sign_index : ℕ → ℕ
-sign_index s = pick (eqb s 0) 5 (s - 1)
+use Rattle.text_laws.proofs.Numbers.{decimal_digit, numbers_back, place_back}
 
 -- a head begins neither as a bar line nor as a rest: behind the step b there is a digit
-step_b : (xs : List ℕ) → begins_with_digit xs ≡ true → kind (codes "b" ++ xs) ≡ got 2 (codes "b" ++ xs)
+step_b : (xs : List ℕ) → begins_with_digit xs ≡ true → kind (codes "b" ++ xs) ≡ got Head (codes "b" ++ xs)
 unfolding begins_with_digit kind one_of strip
 step_b [] h = absurd (let z : ◌≡◌ {A = ℕ} 0 1 = cc in omega arith)
 step_b (x ∷ xs) h =
     let r = digit_range x h in
     let e : eqb 97 x ≡ false = ne_eqb 97 x (omega arith) in
-    ap (λ (b : Bool). or_else (pick b (strip (codes "r") xs) (stuck (x ∷ xs))) 0 (λ ys. got 2 (codes "b" ++ (x ∷ xs)))) e
+    ap (λ (b : Bool). or_else (pick b (strip (codes "r") xs) (stuck (x ∷ xs))) BarLine (λ ys. got Head (codes "b" ++ (x ∷ xs)))) e
 
-kind_head : (sign s : ℕ) (xs : List ℕ) → sign < 6 → s < 7 → begins_with_digit xs ≡ true → kind (mark sign ++ (letter s ++ xs)) ≡ got 2 (mark sign ++ (letter s ++ xs))
+kind_head : (sign s : ℕ) (xs : List ℕ) → sign < 6 → s < 7 → begins_with_digit xs ≡ true → kind (mark sign ++ (letter s ++ xs)) ≡ got Head (mark sign ++ (letter s ++ xs))
 unfolding kind one_of strip
 kind_head sign s xs hi hs h =
-    six (λ n. kind (mark n ++ (letter s ++ xs)) ≡ got 2 (mark n ++ (letter s ++ xs)))
-    (seven (λ m. kind (letter m ++ xs) ≡ got 2 (letter m ++ xs)) refl refl refl refl refl refl (step_b xs h) s hs) refl refl refl refl refl sign hi
+    six (λ n. kind (mark n ++ (letter s ++ xs)) ≡ got Head (mark n ++ (letter s ++ xs)))
+    (seven (λ m. kind (letter m ++ xs) ≡ got Head (letter m ++ xs)) refl refl refl refl refl refl (step_b xs h) s hs) refl refl refl refl refl sign hi
 
-mark_read : (sign s : ℕ) (xs : List ℕ) → sign < 6 → s < 7 → sign_mark (mark sign ++ (letter s ++ xs)) ≡ got (sign_index sign) (letter s ++ xs)
-unfolding sign_mark one_of strip sign_index
+mark_read : (sign s : ℕ) (xs : List ℕ) → sign < 6 → s < 7 → sign_mark (mark sign ++ (letter s ++ xs)) ≡ got sign (letter s ++ xs)
+unfolding sign_mark one_of strip
 mark_read sign s xs hi hs =
-    six (λ n. sign_mark (mark n ++ (letter s ++ xs)) ≡ got (sign_index n) (letter s ++ xs))
-    (seven (λ m. sign_mark (letter m ++ xs) ≡ got 5 (letter m ++ xs)) refl refl refl refl refl refl refl s hs)
+    six (λ n. sign_mark (mark n ++ (letter s ++ xs)) ≡ got n (letter s ++ xs))
+    (seven (λ m. sign_mark (letter m ++ xs) ≡ got 0 (letter m ++ xs)) refl refl refl refl refl refl refl s hs)
     refl
-    (seven (λ m. sign_mark (codes "-" ++ (letter m ++ xs)) ≡ got 1 (letter m ++ xs)) refl refl refl refl refl refl refl s hs)
+    (seven (λ m. sign_mark (codes "-" ++ (letter m ++ xs)) ≡ got 2 (letter m ++ xs)) refl refl refl refl refl refl refl s hs)
     refl refl refl sign hi
-
-sign_back : (sign : ℕ) → sign < 6 → sign_at (sign_index sign) ≡ sign
-unfolding sign_index
-sign_back sign h = six (λ n. sign_at (sign_index n) ≡ n) refl refl refl refl refl refl sign h
 
 step_read : (s : ℕ) (xs : List ℕ) → s < 7 → step (letter s ++ xs) ≡ got s xs
 unfolding step one_of strip
@@ -97,19 +91,16 @@ module _ (p sign v : ℕ) (tied : Bool) (more : List ℕ) (hp : p < places) (hs 
   head_read : head_on sign s octave_text ≡ got (head p sign v tied) more
   unfolding begins_with_digit
   head_read =
-      let z : 7 * o + s ≡ p = omega arith in
-      ap (λ (r : Read ℕ). then r (λ q ys. then (value ys) (λ w zs. then (tie zs) (λ t us. got (head (7 * q + s) sign w t) us))))
-      (numbers_back ((most_in_one - s) / 7) o (codes ":" ++ (decimal v ++ tie_text)) (omega (arith, low)) (omega arith) refl)
-      ∙ ap (λ (r : Read ℕ). then r (λ w zs. then (tie zs) (λ t us. got (head (7 * o + s) sign w t) us))) value_read
-      ∙ ap (λ (r : Read Bool). then r (λ t us. got (head (7 * o + s) sign v t) us)) (tie_read tied more e)
-      ∙ ap (λ q. got (head q sign v tied) more) z
+      ap (λ (r : Read ℕ). then r (λ q ys. then (value ys) (λ w zs. then (tie zs) (λ t us. got (head q sign w t) us))))
+      (place_back p (codes ":" ++ (decimal v ++ tie_text)) hp refl)
+      ∙ ap (λ (r : Read ℕ). then r (λ w zs. then (tie zs) (λ t us. got (head p sign w t) us))) value_read
+      ∙ ap (λ (r : Read Bool). then r (λ t us. got (head p sign v t) us)) (tie_read tied more e)
 
   head_back : symbol_text (mark sign ++ (letter s ++ octave_text)) ≡ got (head p sign v tied) more
   head_back =
-      ap (λ (r : Read ℕ). then r (λ k ys. symbol_on k ys)) (kind_head sign s octave_text hs low (decimal_digit o _ (omega arith)))
-      ∙ ap (λ (r : Read ℕ). then r (λ i ys. then (step ys) (λ q zs. head_on (sign_at i) q zs))) (mark_read sign s octave_text hs low)
-      ∙ ap (λ (r : Read ℕ). then r (λ q zs. head_on (sign_at (sign_index sign)) q zs)) (step_read s octave_text low)
-      ∙ ap (λ i. head_on i s octave_text) (sign_back sign hs)
+      ap (λ (r : Read Kind). then r (λ k ys. symbol_on k ys)) (kind_head sign s octave_text hs low (decimal_digit o _ (omega arith)))
+      ∙ ap (λ (r : Read ℕ). then r (λ i ys. then (step ys) (λ q zs. head_on i q zs))) (mark_read sign s octave_text hs low)
+      ∙ ap (λ (r : Read ℕ). then r (λ q zs. head_on sign q zs)) (step_read s octave_text low)
       ∙ head_read
 
 opened : (m l o v t more : List ℕ) → (m ++ (l ++ (o ++ (codes ":" ++ (v ++ t))))) ++ more ≡ m ++ (l ++ (o ++ (codes ":" ++ (v ++ (t ++ more)))))

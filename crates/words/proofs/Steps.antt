@@ -1,5 +1,5 @@
 -- One step of reading a line: a digit more, a letter more. Assumes nothing.
-use Rattle.std.proofs.Common.{◌≡◌, ℕ, suc, ◌+◌, ◌-◌, ◌*◌, ◌<◌, ◌≤◌, true, false, leb, List, [], ◌∷◌, map, length, get_or, drop, sym, refl, ap, ◌∙◌, add-one, arith, Bor}
+use Rattle.std.proofs.Common.{◌≡◌, ℕ, ◌+◌, ◌-◌, ◌*◌, ◌<◌, ◌≤◌, true, false, leb, List, [], ◌∷◌, map, length, get_or, drop, sym, refl, ap, ◌∙◌, arith, Bor}
 use Rattle.std.proofs.lemmas.List.{at_drop_more, at_drop_all}
 use Rattle.std.proofs.lemmas.Bool.{le-leb, lt-leb, eq-eqb, ne_eqb, and_from, and_left, and_right}
 use Rattle.score.specs.Music.{pick}
@@ -9,18 +9,20 @@ use Rattle.words.specs.Words.{Read, got, stuck, is_digit, begins_with_digit, num
 pub digit_is : (d : ℕ) → d ≤ 9 → is_digit (48 + d) ≡ true
 digit_is d h = and_from _ _ (le-leb 48 (48 + d) (omega arith)) (le-leb (48 + d) 57 (omega arith))
 
-pub none_empty : (xs : List ℕ) → length xs ≡ 0 → begins_with_digit xs ≡ false
+pub none_empty : (xs : List ℕ) → length xs < 1 → begins_with_digit xs ≡ false
 unfolding begins_with_digit
 none_empty [] h = refl
 none_empty (x ∷ xs) h = absurd (omega arith)
 
-pub none_below : (x : ℕ) (xs ys : List ℕ) → ys ≡ x ∷ xs → x < 48 → begins_with_digit ys ≡ false
+pub none_below : (xs : List ℕ) → get_or xs 0 0 < 48 → begins_with_digit xs ≡ false
 unfolding begins_with_digit
-none_below x xs ys e h = ap begins_with_digit e ∙ and_left _ _ (lt-leb 48 x h)
+none_below [] h = refl
+none_below (x ∷ xs) h = and_left _ _ (lt-leb 48 x h)
 
-pub none_above : (x : ℕ) (xs ys : List ℕ) → ys ≡ x ∷ xs → 57 < x → begins_with_digit ys ≡ false
+pub none_above : (xs : List ℕ) → 58 ≤ get_or xs 0 0 → begins_with_digit xs ≡ false
 unfolding begins_with_digit
-none_above x xs ys e h = ap begins_with_digit e ∙ and_right (leb 48 x) _ (lt-leb x 57 h)
+none_above [] h = refl
+none_above (x ∷ xs) h = and_right (leb 48 x) _ (lt-leb x 57 h)
 
 pub number_begun : (most d : ℕ) (xs ys : List ℕ) → ys ≡ (48 + d) ∷ xs → d ≤ 9 → number_on most 0 ys ≡ number most ys
 unfolding begins_with_digit number
@@ -71,28 +73,34 @@ pub letters_over : (ws ys : List ℕ) (i : ℕ) → length ws ≤ i → strip (d
 unfolding strip
 letters_over ws ys i h = at_drop_all (λ (w : List ℕ). strip w ys) ws i h
 
+-- what a word and the value beside it stand for
+abbrev entry : {A : Type 0} → Bor (List ℕ) × A → List ℕ × A
+entry w = (w.0.now, w.1)
+
 -- a word of some fits, or does not, or there are no more
 word_next :
-    (ws : List (Bor (List ℕ))) (d : Bor (List ℕ)) (i : ℕ) (w far xs : List ℕ) (r : Read (Unit {0})) → i < length ws → w ≡ (get_or ws i d).now → r ≡ strip w xs
-    → or_else r i (λ ys. one_of (map (λ x. x.now) (drop (i + 1) ws)) (suc i) (shorter ys far) xs) ≡ one_of (map (λ x. x.now) (drop i ws)) i far xs
+    {A : Type 0} (ws : List (Bor (List ℕ) × A)) (w : Bor (List ℕ) × A) (i : ℕ) (u far xs : List ℕ) (r : Read (Unit {0}))
+    → i < length ws → w ≡ get_or ws i w → u ≡ w.0.now → r ≡ strip u xs
+    → or_else r w.1 (λ ys. one_of (map entry (drop (i + 1) ws)) (shorter ys far) xs) ≡ one_of (map entry (drop i ws)) far xs
 unfolding one_of
-word_next ws d i w far xs r h e k =
-    ap (λ (q : Read (Unit {0})). or_else q i (λ ys. one_of (map (λ x. x.now) (drop (i + 1) ws)) (suc i) (shorter ys far) xs)) (k ∙ ap (λ (u : List ℕ). strip u xs) e)
-    ∙ sym (at_drop_more (λ (z : List (Bor (List ℕ))). one_of (map (λ x. x.now) z) i far xs) ws i d h)
+word_next {A = A} ws w i u far xs r h is e k =
+    ap (λ (q : Read (Unit {0})). or_else q w.1 (λ ys. one_of (map entry (drop (i + 1) ws)) (shorter ys far) xs)) (k ∙ ap (λ (v : List ℕ). strip v xs) e)
+    ∙ ap (λ (v : Bor (List ℕ) × A). or_else (strip v.0.now xs) v.1 (λ ys. one_of (map entry (drop (i + 1) ws)) (shorter ys far) xs)) is
+    ∙ sym (at_drop_more (λ (z : List (Bor (List ℕ) × A)). one_of (map entry z) far xs) ws i w h)
 
 pub word_fits :
-    (ws : List (Bor (List ℕ))) (d : Bor (List ℕ)) (i : ℕ) (w far xs ys : List ℕ) (t : Unit {0}) → i < length ws → w ≡ (get_or ws i d).now → got t ys ≡ strip w xs
-    → got i ys ≡ one_of (map (λ x. x.now) (drop i ws)) i far xs
-word_fits ws d i w far xs ys t h e k = word_next ws d i w far xs (got t ys) h e k
+    {A : Type 0} (ws : List (Bor (List ℕ) × A)) (w : Bor (List ℕ) × A) (i : ℕ) (u far xs ys : List ℕ) (t : Unit {0})
+    → i < length ws → w ≡ get_or ws i w → u ≡ w.0.now → got t ys ≡ strip u xs
+    → got w.1 ys ≡ one_of (map entry (drop i ws)) far xs
+word_fits ws w i u far xs ys t h is e k = word_next ws w i u far xs (got t ys) h is e k
 
 pub word_unfit :
-    (ws : List (Bor (List ℕ))) (d : Bor (List ℕ)) (i : ℕ) (w far xs ys zs : List ℕ) → i < length ws → w ≡ (get_or ws i d).now → stuck ys ≡ strip w xs → zs ≡ shorter ys far
-    → one_of (map (λ x. x.now) (drop (i + 1) ws)) (i + 1) zs xs ≡ one_of (map (λ x. x.now) (drop i ws)) i far xs
-word_unfit ws d i w far xs ys zs h e k s =
-    ap (λ (z : List ℕ). one_of (map (λ x. x.now) (drop (i + 1) ws)) (i + 1) z xs) s
-    ∙ ap (λ (n : ℕ). one_of (map (λ x. x.now) (drop (i + 1) ws)) n (shorter ys far) xs) (add-one i)
-    ∙ word_next ws d i w far xs (stuck ys) h e k
+    {A : Type 0} (ws : List (Bor (List ℕ) × A)) (w : Bor (List ℕ) × A) (i : ℕ) (u far xs ys zs : List ℕ)
+    → i < length ws → w ≡ get_or ws i w → u ≡ w.0.now → stuck ys ≡ strip u xs → zs ≡ shorter ys far
+    → one_of (map entry (drop (i + 1) ws)) zs xs ≡ one_of (map entry (drop i ws)) far xs
+word_unfit ws w i u far xs ys zs h is e k s =
+    ap (λ (z : List ℕ). one_of (map entry (drop (i + 1) ws)) z xs) s ∙ word_next ws w i u far xs (stuck ys) h is e k
 
-pub words_over : (ws : List (Bor (List ℕ))) (i : ℕ) (far xs : List ℕ) → length ws ≤ i → stuck far ≡ one_of (map (λ x. x.now) (drop i ws)) i far xs
+pub words_over : {A : Type 0} (ws : List (Bor (List ℕ) × A)) (i : ℕ) (far xs : List ℕ) → length ws ≤ i → stuck far ≡ one_of (map entry (drop i ws)) far xs
 unfolding one_of
-words_over ws i far xs h = sym (at_drop_all (λ (z : List (Bor (List ℕ))). one_of (map (λ x. x.now) z) i far xs) ws i h)
+words_over {A = A} ws i far xs h = sym (at_drop_all (λ (z : List (Bor (List ℕ) × A)). one_of (map entry z) far xs) ws i h)

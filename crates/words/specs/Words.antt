@@ -1,7 +1,17 @@
 -- How words and numbers are read from the front of a line. Assumes nothing: these are definitions.
-use Rattle.std.specs.Prelude.{ℕ, suc, ◌+◌, ◌-◌, ◌*◌, Bool, false, ◌&&◌, List, [], ◌∷◌, length, Ok, Err, codes, Result, ◌==◌, nat_le, nat_lt}
+use Rattle.std.specs.Prelude.{ℕ, ◌+◌, ◌-◌, ◌*◌, ◌/◌, Bool, false, ◌&&◌, List, [], ◌∷◌, length, Ok, Err, codes, Result, ◌==◌, nat_le, nat_lt}
 use Rattle.std.specs.Borrow.{Bor}
 use Rattle.score.specs.Music.{pick}
+
+-- the largest numbers that fields of one, two and four bytes carry
+abbrev pub most_in_one : ℕ
+most_in_one = 255
+
+abbrev pub most_in_two : ℕ
+most_in_two = 65535
+
+abbrev pub most_in_four : ℕ
+most_in_four = 4294967295
 
 -- what came of reading: a value and the bytes behind it, or the bytes from the first on that does not fit
 pub data Read (A : Type 0) : Type 0 where
@@ -46,14 +56,18 @@ strip (w ∷ ws) (x ∷ xs) = pick (w == x) (strip ws xs) (stuck (x ∷ xs))
 abbrev pub shorter : List ℕ → List ℕ → List ℕ
 shorter xs ys = pick (nat_lt (length xs) (length ys)) xs ys
 
-abbrev pub or_else : Read (Unit {0}) → ℕ → (List ℕ → Read ℕ) → Read ℕ
-or_else (got t ys) i f = got i ys
-or_else (stuck ys) i f = f ys
+abbrev pub or_else : {A : Type 0} → Read (Unit {0}) → A → (List ℕ → Read A) → Read A
+or_else (got t ys) a f = got a ys
+or_else (stuck ys) a f = f ys
 
--- the first of some words that fits, by its index, which counts from i; if none does, from the furthest place on that one of them came to
-unfoldable pub one_of : List (List ℕ) → ℕ → List ℕ → List ℕ → Read ℕ
-one_of [] i furthest xs = stuck furthest
-one_of (w ∷ ws) i furthest xs = or_else (strip w xs) i (λ ys. one_of ws (suc i) (shorter ys furthest) xs)
+-- the value beside the first of some words that fits; if none does, from the furthest place on that one of them came to
+unfoldable pub one_of : {A : Type 0} → List (List ℕ × A) → List ℕ → List ℕ → Read A
+one_of [] furthest xs = stuck furthest
+one_of (w ∷ ws) furthest xs = or_else (strip w.0 xs) w.1 (λ ys. one_of ws (shorter ys furthest) xs)
 
 abbrev pub spaced_number : ℕ → List ℕ → Read ℕ
 spaced_number most xs = then (strip (codes " ") xs) (λ _ ys. number most ys)
+
+-- an octave behind its step is a place, as long as it fits a byte
+abbrev pub place_on : ℕ → List ℕ → Read ℕ
+place_on step xs = then (number ((most_in_one - step) / 7) xs) (λ octave ys. got (7 * octave + step) ys)

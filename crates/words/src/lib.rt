@@ -1,23 +1,22 @@
 //! The words and numbers that a line of text is made of, read from its front on.
 #![tactic(auto)]
 
-ghost use Rattle.std.specs.Prelude.{◌≡◌, ◌+◌, ◌<◌, ◌≤◌, true, false, ◌∷◌, map, length, IfOk, Some, None};
-ghost use Rattle.words.specs.Words.{number, strip, spaced_number, one_of, outcome, begins_with_digit};
+ghost use Rattle.std.specs.Prelude.{◌≡◌, ◌+◌, ◌<◌, ◌≤◌, true, false, ◌∷◌, map, Contains, IfOk, Some, None};
+ghost use Rattle.words.specs.Words.{number, strip, spaced_number, one_of, place_on, outcome, begins_with_digit};
 
 /// The digit that a line begins with, and what is behind it.
+#[tactic(auto, using(crate::proofs::Steps::none_empty, crate::proofs::Steps::none_below, crate::proofs::Steps::none_above))]
 fn digit(line: &[u8]) -> Option<(u8, &[u8])>
     ensures { elim result [ Some v ↦ (line.now ≡ (48 + v.0) ∷ v.1.now) × (v.0 ≤ 9) | None ↦ begins_with_digit line.now ≡ false ] }
 {
-    let Some((first, rest)) = line.split_first() else {
-        return None;
-    };
-    if *first < b'0' || *first > b'9' {
-        return None;
+    match line {
+        [first @ b'0'..=b'9', rest @ ..] => Some((*first - b'0', rest)),
+        _ => None,
     }
-    Some((*first - b'0', rest))
 }
 
-/// Reads just this word.
+/// Reads just this word. The unit that it hands on gives all readers one shape; `strip_prefix` would not say how far the word fits.
+#[tactic(auto, using(crate::proofs::Steps::letter_same, crate::proofs::Steps::letter_other, crate::proofs::Steps::letter_none, crate::proofs::Steps::letters_over))]
 pub fn read_word<'a>(line: &'a [u8], word: &[u8]) -> Result<((), &'a [u8]), &'a [u8]>
     ensures { outcome result ≡ strip word.now line.now }
 {
@@ -34,15 +33,18 @@ pub fn read_word<'a>(line: &'a [u8], word: &[u8]) -> Result<((), &'a [u8]), &'a 
     Ok(((), rest))
 }
 
-/// Reads the first of these words that fits, and says which.
-pub fn read_one_of<'a>(line: &'a [u8], words: &[&str]) -> Result<(usize, &'a [u8]), &'a [u8]>
-    ensures read { outcome result ≡ one_of (map (λ x. x.now) words.now) 0 line.now line.now }
-    ensures bound { IfOk result (λ v. v.0 < length words.now) }
+/// Reads the first of these words that fits, and hands on the value beside it.
+pub fn read_one_of<'a, T: Copy>(
+    line: &'a [u8],
+    words: &[(&str, T)],
+) -> Result<(T, &'a [u8]), &'a [u8]>
+    ensures read { outcome result ≡ one_of (map (λ w. (w.0.now, w.1)) words.now) line.now line.now }
+    ensures listed { IfOk result (λ v. Contains (map (λ w. w.1) words.now) v.0) }
 {
     let mut furthest = line;
-    for (i, word) in words.iter().enumerate() {
+    for (word, value) in words {
         match read_word(line, word.as_bytes()) {
-            Ok((_, rest)) => return Ok((i, rest)),
+            Ok((_, rest)) => return Ok((*value, rest)),
             Err(rest) => {
                 if rest.len() < furthest.len() {
                     furthest = rest;
@@ -54,6 +56,7 @@ pub fn read_one_of<'a>(line: &'a [u8], words: &[&str]) -> Result<(usize, &'a [u8
 }
 
 /// Reads a number that is at most `most`.
+#[tactic(auto, using(crate::proofs::Steps::number_begun, crate::proofs::Steps::digit_fits, crate::proofs::Steps::digit_too_much, crate::proofs::Steps::digits_over), unfolding(crate::specs::Words::number))]
 pub fn read_number(line: &[u8], most: u32) -> Result<(u32, &[u8]), &[u8]>
     ensures read { outcome result ≡ number most line.now }
     ensures bound { IfOk result (λ v. v.0 ≤ most) }
@@ -81,4 +84,12 @@ pub fn read_spaced(line: &[u8], most: u32) -> Result<(u32, &[u8]), &[u8]>
 {
     let (_, rest) = read_word(line, b" ")?;
     read_number(rest, most)
+}
+
+/// Reads an octave behind its step: a place, as long as it fits a byte.
+pub fn read_place(line: &[u8], step: u8) -> Result<(u8, &[u8]), &[u8]>
+    ensures { outcome result ≡ place_on step line.now }
+{
+    let (octave, rest) = read_number(line, (u8::MAX - step) as u32 / 7)?;
+    Ok((7 * octave as u8 + step, rest))
 }

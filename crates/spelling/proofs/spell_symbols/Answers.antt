@@ -1,5 +1,5 @@
 -- A row, by what it means.
-use Rattle.std.proofs.Common.{[], string_bytes, codes}
+use Rattle.std.proofs.Common.{[], string_bytes, codes, refl}
 use Rattle.score.specs.Meaning.{symbol_meant}
 use Rattle.score.specs.Spelling.{spelled_symbol}
 use Rattle.spelling.proofs.Rows.{row_meant, retold}
@@ -8,4 +8,4 @@ use Rattle.spelling.proofs.spell_symbols.Goals as goal
 pub returns : goal.returns
 returns c =
     retold c.spell_row.result (string_bytes c.spell_row.new.out) (string_bytes c.args.out.now) _ _
-    (row_meant spelled_symbol symbol_meant [] (codes " ") c.args.symbols.now) c.spell_row.ensures
+    (row_meant spelled_symbol symbol_meant [] (codes " ") c.args.symbols.now) (c.spell_row.ensures (λ x. spelled_symbol (symbol_meant x)) (λ x. refl))
