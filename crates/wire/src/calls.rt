@@ -4,7 +4,7 @@ ghost use Rattle.score.specs.Meaning.{event_meant, call_meant};
 ghost use Rattle.wire.specs.Bytes.{four, event_bytes, call_bytes};
 ghost use Rattle.wire.specs.ReadingCalls.{read_as, read_call, fields, fields_and_event, four_at, field_at, event_at, end_at};
 
-use super::write_fields;
+use super::{write_fields, write_row};
 use score::{Call, Event, Refusal};
 
 /// Writes a call, and returns how many bytes that is.
@@ -63,8 +63,7 @@ fn write_event(out: &mut [u8], event: Event) -> usize
             [1, 0, 0, low, high]
         }
     };
-    out[0..5].copy_from_slice(&row);
-    5
+    write_row(out, &row)
 }
 
 /// The call that bytes are, or the refusal whose place is the first byte that no call could have there, or their length where they end too early.
