@@ -1,46 +1,52 @@
 //! Answers, from their bytes to a line of text.
 #![tactic(auto)]
 
-ghost use Rattle.std.specs.Prelude.{◌≡◌, List, [], ◌++◌, map, IfOk, string_bytes, OnOk};
+ghost use Rattle.std.specs.Prelude.{◌≡◌, ◌++◌, map, IfOk, string_bytes, OnOk};
 ghost use Rattle.std.specs.Option.{option_map};
-ghost use Rattle.score.specs.Meaning.{symbol_meant, sound_meant};
-ghost use Rattle.wire.specs.Reading.{symbol_of, sound_of, row_of, answer_of};
-ghost use Rattle.score.specs.Calls.{symbols, sounds};
-ghost use Rattle.score.specs.Spelling.{spelled_bytes};
+ghost use Rattle.score.specs.Spelling.{spelled_answer, spelled_bytes};
+ghost use Rattle.wire.specs.Reading.{row_of, answer_of};
 
 use score::{Answer, Sound, Symbol};
 use spelling::{spell_sounds, spell_symbols};
 use std::alloc::{AllocError, Global};
-use wire::{read_answer, read_sound, read_symbol};
+use std::fmt;
+use wire::{Item, read_answer};
 
-/// So many symbols, from their bytes.
-pub fn symbols_in(heap: Global, bytes: &[u8], count: u32) -> Result<Option<Vec<Symbol>>, AllocError>
-    ensures { IfOk result (λ o. option_map (λ v. map symbol_meant v.items) o ≡ row_of symbol_of 5 count bytes.now) }
-{
-    let mut row = Vec::new(heap);
-    let mut rest = bytes;
-    for _i in 0..count {
-        let Some(symbol) = read_symbol(rest) else {
-            return Ok(None);
-        };
-        row.push(symbol)?;
-        rest = &rest[5..];
-    }
-    Ok(Some(row))
+/// What an answer may be a row of.
+trait Spelled: Item {
+    /// Writes such a row behind what stands there.
+    fn spell(row: &[Self], out: &mut String) -> fmt::Result
+        ensures { OnOk result (string_bytes out.new ≡ string_bytes out.old ++ spelled_answer (Self.answer (map Self.meant row.now))) };
 }
 
-/// So many sounds, from their bytes.
-pub fn sounds_in(heap: Global, bytes: &[u8], count: u32) -> Result<Option<Vec<Sound>>, AllocError>
-    ensures { IfOk result (λ o. option_map (λ v. map sound_meant v.items) o ≡ row_of sound_of 8 count bytes.now) }
+impl Spelled for Symbol {
+    fn spell(row: &[Symbol], out: &mut String) -> fmt::Result {
+        spell_symbols(row, out)
+    }
+}
+
+impl Spelled for Sound {
+    fn spell(row: &[Sound], out: &mut String) -> fmt::Result {
+        spell_sounds(row, out)
+    }
+}
+
+/// So many symbols or sounds, from their bytes.
+pub fn items_in<T: Item>(
+    heap: Global,
+    bytes: &[u8],
+    count: u32,
+) -> Result<Option<Vec<T>>, AllocError>
+    ensures { IfOk result (λ o. option_map (λ v. map T.meant v.items) o ≡ row_of T.of T.SIZE count bytes.now) }
 {
     let mut row = Vec::new(heap);
     let mut rest = bytes;
     for _i in 0..count {
-        let Some(sound) = read_sound(rest) else {
+        let Some(item) = T::read(rest) else {
             return Ok(None);
         };
-        row.push(sound)?;
-        rest = &rest[8..];
+        row.push(item)?;
+        rest = &rest[T::SIZE..];
     }
     Ok(Some(row))
 }
@@ -56,29 +62,41 @@ pub fn spell_answer(heap: Global, bytes: &[u8], out: &mut String) -> anyhow::Res
     match said {
         Answer::Done => write!(out, "done")?,
         Answer::Refused { number, place } => write!(out, "refused {number} at {place}")?,
-        Answer::Symbols { count } => spell_symbols_in(heap, &bytes[5..], count, out)?,
-        Answer::Sounds { count } => spell_sounds_in(heap, &bytes[5..], count, out)?,
+        Answer::Symbols { count } => spell_items_in::<Symbol>(heap, &bytes[5..], count, out)?,
+        Answer::Sounds { count } => spell_items_in::<Sound>(heap, &bytes[5..], count, out)?,
         Answer::Number { number } => write!(out, "{number}")?,
     }
     Ok(())
 }
 
-fn spell_symbols_in(heap: Global, bytes: &[u8], count: u32, out: &mut String) -> anyhow::Result<()>
-    ensures { OnOk result (string_bytes out.new ≡ string_bytes out.old ++ spelled_bytes (option_map symbols (row_of symbol_of 5 count bytes.now))) }
+/// Writes a row of so many, from their bytes.
+fn spell_items_in<T: Spelled>(
+    heap: Global,
+    bytes: &[u8],
+    count: u32,
+    out: &mut String,
+) -> anyhow::Result<()>
+    ensures { OnOk result (string_bytes out.new ≡ string_bytes out.old ++ spelled_bytes (option_map T.answer (row_of T.of T.SIZE count bytes.now))) }
 {
-    match symbols_in(heap, bytes, count)? {
-        Some(row) => spell_symbols(&row, out)?,
+    match items_in::<T>(heap, bytes, count)? {
+        Some(row) => T::spell(&row, out)?,
         None => write!(out, "no answer")?,
     }
     Ok(())
 }
 
-fn spell_sounds_in(heap: Global, bytes: &[u8], count: u32, out: &mut String) -> anyhow::Result<()>
-    ensures { OnOk result (string_bytes out.new ≡ string_bytes out.old ++ spelled_bytes (option_map sounds (row_of sound_of 8 count bytes.now))) }
-{
-    match sounds_in(heap, bytes, count)? {
-        Some(row) => spell_sounds(&row, out)?,
-        None => write!(out, "no answer")?,
+#[cfg(test)]
+mod tests {
+    use super::*;
+
+    // Symbols and sounds are taken from their bytes, and none of a row that is cut short.
+    #[test]
+    fn rows_from_their_bytes(rt: HostRuntime) -> anyhow::Result<()> {
+        let symbols = items_in(rt.alloc(), &[0, 0, 0, 0, 0, 3, 0, 0, 48, 0, 9], 2)?;
+        let row = [Symbol::BarLine, Symbol::Rest { value: 48 }];
+        assert!(rt; symbols.is_some_and(|found| found.as_slice() == row.as_slice()));
+        let sounds = items_in::<Sound>(rt.alloc(), &[1, 60, 0, 1, 0, 0, 96, 0, 1, 62, 0], 2)?;
+        assert!(rt; sounds.is_none());
+        Ok(())
     }
-    Ok(())
 }

@@ -1,22 +1,23 @@
 -- What is owed, one turn of each loop later: of values, of bars and of events. Assumes nothing.
-use Rattle.std.proofs.Common.{◌≡◌, ℕ, zero, suc, ◌+◌, ◌-◌, ◌*◌, ◌%◌, ◌<◌, ◌≤◌, min, true, eqb, ltb, List, [], ◌∷◌, length, get_or, set, sym, ap, ◌∙◌, subst, ap₂, arith}
-use Rattle.std.proofs.lemmas.List.{set-get_or}
-use Rattle.std.proofs.lemmas.Bool.{eq-eqb, ne_eqb, le-leb, lt-leb}
-use Rattle.score.specs.Music.{pick, places, Event, note, silence, all_fine}
-use Rattle.score.specs.Print.{Symbol, bar, key, all_values, largest, lesser, print, so_many}
-use Rattle.score.proofs.Picks.{pick_true, pick_false}
-use Rattle.laws.specs.Owed.{one, owed, rest_from}
-use Rattle.laws.specs.Rows.{event_of, voice_of}
-use Rattle.laws.proofs.Laid.{lesser_less}
+use Rattle.std.proofs.Common.{◌≡◌, ℕ, zero, suc, ◌+◌, ◌-◌, ◌*◌, ◌%◌, ◌<◌, ◌≤◌, min, Bool, true, false, eqb, ltb, leb, List, [], ◌∷◌, map, length, sym, refl, ap, ◌∙◌, subst, ap₂, arith}
+use Rattle.std.proofs.lemmas.Bool.{eqb-true, eqb-false, ne_eqb, le-leb, lt-leb, and_parts}
+use Rattle.score.specs.Music.{pick, places, Event, all_fine}
+use Rattle.score.specs.Print.{Symbol, bar, key, pieces, lesser, print, now, so_many}
+use Rattle.score.proofs.Picks.{pick_true, pick_false, pick_both}
+use Rattle.laws.specs.Owed.{one, owed, rest_from, sign_of}
+use Rattle.laws.specs.Rows.{event_of}
+use Rattle.laws.proofs.Laid.{lesser_less, lesser_both}
 use Rattle.laws.proofs.Owing.{begins_note, begins_rest, ended, owed_line, owed_value, so_many_one, so_many_line, so_many_none, so_many_end}
-use Rattle.laws.proofs.Rows.{rest_of, voice_at, voice_end, fine_from, Words, words_at, lasts_words, place_words}
+use Rattle.laws.proofs.Rows.{Words, fine_words, lasts_words, place_words}
 use Rattle.laws.proofs.Walk.{from_bar_walks, rest_none}
-use Rattle.keys.specs.Held.{key_row, held_in}
-use Rattle.keys.proofs.Holding.{held_at, held_key, held_set}
-use Rattle.score.specs.declared.Layout.{Layout}
+use Rattle.keys.specs.Held.{key_row, held_in, sign_needed, then_holding}
+use Rattle.keys.proofs.Holding.{held_key, needed_is, holding_is}
+use Rattle.lengths.proofs.Drawing.{value_known, values_over}
+use Rattle.rows.specs.declared.Row.{Row}
 use Rattle.rows.specs.declared.Rows.{Rows}
+use Rattle.rows.specs.Rows.{event_in, voice_in, zipped}
+use Rattle.rows.proofs.Zipped.{voice_zipped}
 use Rattle.engraving.specs.Shown.{asked_for}
-use Rattle.engraving.specs.Voice.{Ready}
 
 -- in the middle of an event: n bars of d ticks at place p, from tick o of a bar on, and of the events behind it
 unfoldable pub in_event : ℕ → ℕ → ℕ → List ℕ → ℕ → ℕ → ℕ → List Event → ℕ → List Symbol
@@ -37,19 +38,42 @@ starts_voice k b from n hs es h b3 f e =
     ap (λ (st : ℕ → ℕ). so_many (rest_from k b (from * b) 0 st es) n) (held_key k hs e)
     ∙ ap (λ (xs : List Symbol). so_many xs n) (sym (from_bar_walks k b from es h b3 f))
 
--- a value: v is the largest that is not too long for what is left of the event and of the bar
-pub value_turn : (k b o : ℕ) (hs : List ℕ) (p s d part v : ℕ) (es : List Event) (n : ℕ) → o < b → 0 < d → b % 3 ≡ 0 → o % 3 ≡ 0 → d % 3 ≡ 0 → 0 < n →
-    part ≡ lesser d (b - o) → v ≡ largest part all_values →
-    in_event k b o hs p s d es n ≡ one p s v (ltb 0 (d - v)) ∷ in_event k b (o + v) hs p 0 (d - v) es n
-unfolding in_event
-value_turn k b o hs p s d part v es n h q b3 o3 d3 m e w =
-    ap (λ (xs : List Symbol). so_many xs n) (owed_value k b o (held_in k hs) p s d v es h q b3 o3 d3 (w ∙ ap (λ (x : ℕ). largest x all_values) e))
-    ∙ so_many_one p s v (ltb 0 (d - v)) (owed k b (o + v) (held_in k hs) p 0 (d - v) es) n m
+-- a value: the largest that is not too long for what is left of the event and of the bar, as the values that are left begin with it
+pub record Value (k b o : ℕ) (hs : List ℕ) (p s d v : ℕ) (vs : List ℕ) (es : List Event) (n : ℕ) : Type 0 where
+  pub some : 0 < v
+  pub small : v ≤ 192
+  pub three : v % 3 ≡ 0
+  pub within : v ≤ d
+  pub fits : o + v ≤ b
+  pub then : vs ≡ pieces (lesser (d - v) (b - (o + v))) (lesser (d - v) (b - (o + v)))
+  pub owes : in_event k b o hs p s d es n ≡ one p s v (ltb 0 (d - v)) ∷ in_event k b (o + v) hs p 0 (d - v) es n
 
-pub part_turn : (b o d part v : ℕ) → part ≡ lesser d (b - o) → part - v ≡ lesser (d - v) (b - (o + v))
-part_turn b o d part v e =
-    let m : b - o - v ≡ b - (o + v) = omega arith in
-    ap (λ (x : ℕ). x - v) e ∙ lesser_less d (b - o) v ∙ ap (lesser (d - v)) m
+pub value_turn : (k b o : ℕ) (hs : List ℕ) (p s d v : ℕ) (vs us : List ℕ) (es : List Event) (n : ℕ) → o ≤ b → b % 3 ≡ 0 → o % 3 ≡ 0 → d % 3 ≡ 0 → 0 < n →
+    us ≡ pieces (lesser d (b - o)) (lesser d (b - o)) → us ≡ v ∷ vs → Value k b o hs p s d v vs es n
+unfolding in_event
+value_turn k b o hs p s d v vs us es n h b3 o3 d3 m e f =
+    let g = value_known (lesser d (b - o)) v vs (sym e ∙ f) in
+    let l = lesser_both d (b - o) in
+    let w = g.0.within in
+    let z = g.1 in
+    let q : b - o - v ≡ b - (o + v) = omega arith in
+    let u : lesser d (b - o) - v ≡ lesser (d - v) (b - (o + v)) = lesser_less d (b - o) v ∙ ap (lesser (d - v)) q in
+    record {
+      some = z;
+      small = g.0.small;
+      three = g.0.three;
+      within = omega arith;
+      fits = omega arith;
+      then = g.2 ∙ ap (λ (x : ℕ). pieces x x) u;
+      owes =
+          ap (λ (xs : List Symbol). so_many xs n) (owed_value k b o (held_in k hs) p s d v es (omega arith) (omega arith) b3 o3 d3 g.0.is)
+          ∙ so_many_one p s v (ltb 0 (d - v)) (owed k b (o + v) (held_in k hs) p 0 (d - v) es) n m;
+    }
+
+-- where no value is left, the event is over or the bar is full
+pub values_turn : (b o d : ℕ) (us : List ℕ) → b % 3 ≡ 0 → o % 3 ≡ 0 → d % 3 ≡ 0 → o ≤ b → us ≡ pieces (lesser d (b - o)) (lesser d (b - o)) → us ≡ [] → lesser d (b - o) ≡ 0
+values_turn b o d us b3 o3 d3 h e f =
+    values_over (lesser d (b - o)) (sym e ∙ f) (pick_both (λ (x : ℕ). x % 3 ≡ 0) (leb d (b - o)) d (b - o) (λ _. d3) (λ _. omega arith))
 
 -- a bar line: then another bar, or none
 unfoldable pub next_bar : ℕ → ℕ → ℕ → ℕ → ℕ → List Event → ℕ → List Symbol
@@ -70,97 +94,80 @@ pub no_bar : (k b p s d : ℕ) (es : List Event) (n : ℕ) → n ≡ 0 → next_
 unfolding next_bar
 no_bar k b p s d es n e = ap (so_many (owed k b 0 (key k) p s d es)) e ∙ so_many_none (owed k b 0 (key k) p s d es)
 
--- the events of three rows
-pub record Rowed (ps xs ds : List ℕ) (i : ℕ) : Type 0 where
-  pub there : i < length ds
-  pub same_places : length ps ≡ length ds
-  pub same_alterations : length xs ≡ length ds
-  pub fine : all_fine (voice_of ps xs ds) ≡ true
+-- An event that is fine: its words, and those of the events behind it.
+pub record First (r : Row) (es : List Event) : Type 0 where
+  pub words : Words r.place r.alteration r.length
+  pub others : all_fine es ≡ true
 
-pub event_words : {ps xs ds : List ℕ} {i : ℕ} → Rowed ps xs ds i → Words (get_or ps i 0) (get_or xs i 0) (get_or ds i 0)
-event_words {ps} {xs} {ds} {i} r = words_at ps xs ds i r.there r.same_places r.same_alterations r.fine
-
-this_event : {ps xs ds : List ℕ} {i : ℕ} → Rowed ps xs ds i → rest_of ps xs ds i ≡ event_of (get_or ps i 0) (get_or xs i 0) (get_or ds i 0) ∷ rest_of ps xs ds (i + 1)
-this_event {ps} {xs} {ds} {i} r = voice_at ps xs ds i r.there r.same_places r.same_alterations
-
-pub rowed : (r : Rows) (y : Layout) (i : ℕ) → Ready r y → i < length r.lengths.now → Rowed r.places.now r.alterations.now r.lengths.now i
-rowed r y i g h = record { there = h; same_places = g.same_places; same_alterations = g.same_alterations; fine = g.fine }
+pub first : (r : Row) (es : List Event) → all_fine (event_in r ∷ es) ≡ true → First r es
+unfolding all_fine
+first r es f = let w = and_parts _ _ f in record { words = fine_words r.place r.alteration r.length w.0; others = w.1 }
 
 -- an event is passed over
-passed_by : {ps xs ds : List ℕ} {i : ℕ} (k b t o : ℕ) (hs : List ℕ) (n : ℕ) → Rowed ps xs ds i → get_or ds i 0 ≤ t →
-    in_voice k b t o hs (rest_of ps xs ds i) n ≡ in_voice k b (t - get_or ds i 0) o hs (rest_of ps xs ds (i + 1)) n
+passed_by : (k b t o : ℕ) (hs : List ℕ) (r : Row) (es : List Event) (n : ℕ) → r.length ≤ t →
+    in_voice k b t o hs (event_in r ∷ es) n ≡ in_voice k b (t - r.length) o hs es n
 unfolding in_voice rest_from
-passed_by {ps} {xs} {ds} {i} k b t o hs n r l =
-    let w = lasts_words (get_or ps i 0) (get_or xs i 0) (get_or ds i 0) in
-    ap (λ (es : List Event). so_many (rest_from k b t o (held_in k hs) es) n) (this_event r)
-    ∙ ap (λ (ys : List Symbol). so_many ys n) (pick_true _ _ _ (le-leb _ t (subst (λ (x : ℕ). x ≤ t) (sym w) l)))
-    ∙ ap (λ (x : ℕ). so_many (rest_from k b (t - x) o (held_in k hs) (rest_of ps xs ds (i + 1))) n) w
+passed_by k b t o hs r es n l =
+    let w = lasts_words r.place r.alteration r.length in
+    ap (λ (ys : List Symbol). so_many ys n) (pick_true _ _ _ (le-leb _ t (subst (λ (x : ℕ). x ≤ t) (sym w) l)))
+    ∙ ap (λ (x : ℕ). so_many (rest_from k b (t - x) o (held_in k hs) es) n) w
 
 -- an event sounds already where the first bar begins: its heads there have no sign
-reached : {ps xs ds : List ℕ} {i : ℕ} (k b t o : ℕ) (hs : List ℕ) (n : ℕ) → Rowed ps xs ds i → t < get_or ds i 0 → 0 < t →
-    in_voice k b t o hs (rest_of ps xs ds i) n ≡ in_event k b o hs (get_or ps i 0) 0 (get_or ds i 0 - t) (rest_of ps xs ds (i + 1)) n
+reached : (k b t o : ℕ) (hs : List ℕ) (r : Row) (es : List Event) (n : ℕ) → t < r.length → 0 < t →
+    in_voice k b t o hs (event_in r ∷ es) n ≡ in_event k b o hs r.place 0 (r.length - t) es n
 unfolding in_voice in_event rest_from
-reached {ps} {xs} {ds} {i} k b t o hs n r l m =
-    let w = lasts_words (get_or ps i 0) (get_or xs i 0) (get_or ds i 0) in
-    let p = place_words (get_or ps i 0) (get_or xs i 0) (get_or ds i 0) in
-    ap (λ (es : List Event). so_many (rest_from k b t o (held_in k hs) es) n) (this_event r)
-    ∙ ap (λ (ys : List Symbol). so_many ys n) (pick_false _ _ _ (lt-leb _ t (subst (λ (x : ℕ). t < x) (sym w) l)) ∙ pick_false _ _ _ (ne_eqb t 0 (λ z. omega arith)))
-    ∙ ap₂ (λ (x y : ℕ). so_many (owed k b o (held_in k hs) x 0 (y - t) (rest_of ps xs ds (i + 1))) n) p w
+reached k b t o hs r es n l m =
+    let w = lasts_words r.place r.alteration r.length in
+    let p = place_words r.place r.alteration r.length in
+    ap (λ (ys : List Symbol). so_many ys n) (pick_false _ _ _ (lt-leb _ t (subst (λ (x : ℕ). t < x) (sym w) l)) ∙ pick_false _ _ _ (ne_eqb t 0 (λ z. omega arith)))
+    ∙ ap₂ (λ (x y : ℕ). so_many (owed k b o (held_in k hs) x 0 (y - t) es) n) p w
 
 -- where g ticks of an event are gone, as many as it has of those that are to be passed over
-pub pass_turn : {ps xs ds : List ℕ} {i : ℕ} (k b t o g : ℕ) (hs : List ℕ) (n : ℕ) → Rowed ps xs ds i → g ≡ min t (get_or ds i 0) → get_or ds i 0 - g ≡ 0 →
-    in_voice k b t o hs (rest_of ps xs ds i) n ≡ in_voice k b (t - g) o hs (rest_of ps xs ds (i + 1)) n
-pass_turn {ps} {xs} {ds} {i} k b t o g hs n r e z =
-    let w : get_or ds i 0 ≡ g = omega arith in
-    passed_by k b t o hs n r (omega arith) ∙ ap (λ (d : ℕ). in_voice k b (t - d) o hs (rest_of ps xs ds (i + 1)) n) w
+pub pass_turn : (k b t o g : ℕ) (hs : List ℕ) (r : Row) (es : List Event) (n : ℕ) → g ≡ min t r.length → r.length - g ≡ 0 →
+    in_voice k b t o hs (event_in r ∷ es) n ≡ in_voice k b (t - g) o hs es n
+pass_turn k b t o g hs r es n e z =
+    let w : r.length ≡ g = omega arith in
+    passed_by k b t o hs r es n (omega arith) ∙ ap (λ (d : ℕ). in_voice k b (t - d) o hs es n) w
 
-pub reach_turn : {ps xs ds : List ℕ} {i : ℕ} (k b t o g : ℕ) (hs : List ℕ) (n : ℕ) → Rowed ps xs ds i → g ≡ min t (get_or ds i 0) → (get_or ds i 0 - g ≡ 0 → ⊥) → (g ≡ 0 → ⊥) →
-    in_voice k b t o hs (rest_of ps xs ds i) n ≡ in_event k b o hs (get_or ps i 0) 0 (get_or ds i 0 - g) (rest_of ps xs ds (i + 1)) n
-reach_turn {ps} {xs} {ds} {i} k b t o g hs n r e z m =
+pub reach_turn : (k b t o g : ℕ) (hs : List ℕ) (r : Row) (es : List Event) (n : ℕ) → g ≡ min t r.length → (r.length - g ≡ 0 → ⊥) → (g ≡ 0 → ⊥) →
+    in_voice k b t o hs (event_in r ∷ es) n ≡ in_event k b o hs r.place 0 (r.length - g) es n
+reach_turn k b t o g hs r es n e z m =
     let w : t ≡ g = omega arith in
-    reached k b t o hs n r (omega arith) (omega arith) ∙ ap (λ (x : ℕ). in_event k b o hs (get_or ps i 0) 0 (get_or ds i 0 - x) (rest_of ps xs ds (i + 1)) n) w
+    reached k b t o hs r es n (omega arith) (omega arith) ∙ ap (λ (x : ℕ). in_event k b o hs r.place 0 (r.length - x) es n) w
 
--- an event begins
-begun : {ps xs ds : List ℕ} {i : ℕ} (k b t o : ℕ) (hs : List ℕ) (n : ℕ) (e : Event) → Rowed ps xs ds i → t ≡ 0 → event_of (get_or ps i 0) (get_or xs i 0) (get_or ds i 0) ≡ e →
-    in_voice k b t o hs (rest_of ps xs ds i) n ≡ so_many (print k b o (held_in k hs) (e ∷ rest_of ps xs ds (i + 1))) n
-unfolding in_voice
-begun {ps} {xs} {ds} {i} k b t o hs n e r z w =
-    ap (λ (x : ℕ). so_many (rest_from k b x o (held_in k hs) (rest_of ps xs ds i)) n) z
-    ∙ ap (λ (ys : List Symbol). so_many ys n) (rest_none k b o (held_in k hs) (rest_of ps xs ds i) (fine_from ps xs ds i r.fine))
-    ∙ ap (λ (es : List Event). so_many (print k b o (held_in k hs) es) n) (this_event r ∙ ap (λ (v : Event). v ∷ rest_of ps xs ds (i + 1)) w)
+-- an event begins: a silence, or a note, whose alteration then holds at its place
+begun_rest : (k b o : ℕ) (hs : List ℕ) (p a d : ℕ) (es : List Event) → o < b → eqb p 70 ≡ true →
+    print k b o (held_in k hs) (event_of p a d ∷ es) ≡ owed k b o (held_in k hs) p 0 d es
+begun_rest k b o hs p a d es l e =
+    ap (λ (v : Event). print k b o (held_in k hs) (v ∷ es)) (pick_true _ _ _ e)
+    ∙ begins_rest k b o (held_in k hs) 0 d es l ∙ ap (λ (x : ℕ). owed k b o (held_in k hs) x 0 d es) (sym (eqb-true p 70 e))
 
-pub silent_turn : {ps xs ds : List ℕ} {i : ℕ} (k b t o d : ℕ) (hs : List ℕ) (n : ℕ) → Rowed ps xs ds i → t ≡ 0 → get_or ds i 0 ≡ d → o < b → get_or ps i 0 ≡ 70 →
-    in_voice k b t o hs (rest_of ps xs ds i) n ≡ in_event k b o hs (get_or ps i 0) 0 d (rest_of ps xs ds (i + 1)) n
-unfolding in_event
-silent_turn {ps} {xs} {ds} {i} k b t o d hs n r z w l e =
-    begun k b t o hs n (silence d) r z (pick_true _ _ _ (eq-eqb _ 70 e) ∙ ap silence w)
-    ∙ ap (λ (ys : List Symbol). so_many ys n) (begins_rest k b o (held_in k hs) 0 d (rest_of ps xs ds (i + 1)) l ∙ ap (λ (p : ℕ). owed k b o (held_in k hs) p 0 d (rest_of ps xs ds (i + 1))) (sym e))
+begun_note : (k b o : ℕ) (hs : List ℕ) (p a d : ℕ) (es : List Event) → o < b → eqb p 70 ≡ false →
+    print k b o (held_in k hs) (event_of p a d ∷ es) ≡ owed k b o (now (held_in k hs) p a) p (sign_of (held_in k hs) p a) d es
+begun_note k b o hs p a d es l e =
+    ap (λ (v : Event). print k b o (held_in k hs) (v ∷ es)) (pick_false _ _ _ e) ∙ begins_note k b o (held_in k hs) p a d es l (eqb-false p 70 e)
 
--- a note begins, whose alteration holds at its place or then begins to hold there
-note_turn : {ps xs ds : List ℕ} {i : ℕ} (k b t o d : ℕ) (hs : List ℕ) (n : ℕ) → Rowed ps xs ds i → t ≡ 0 → get_or ds i 0 ≡ d → o < b → (get_or ps i 0 ≡ 70 → ⊥) → length hs ≡ places →
-    in_voice k b t o hs (rest_of ps xs ds i) n
-    ≡ in_event k b o (set hs (get_or ps i 0) (get_or xs i 0)) (get_or ps i 0) (pick (eqb (get_or hs (get_or ps i 0) 0) (get_or xs i 0)) 0 (suc (get_or xs i 0))) d (rest_of ps xs ds (i + 1)) n
-unfolding in_event
-note_turn {ps} {xs} {ds} {i} k b t o d hs n r z w l ne len =
-    let lt : get_or ps i 0 < places = omega (arith, (event_words r).place) in
-    begun k b t o hs n (note (get_or ps i 0) (get_or xs i 0) d) r z (pick_false _ _ _ (ne_eqb _ 70 ne) ∙ ap (note (get_or ps i 0) (get_or xs i 0)) w)
-    ∙ ap (λ (ys : List Symbol). so_many ys n) (begins_note k b o (held_in k hs) (get_or ps i 0) (get_or xs i 0) d (rest_of ps xs ds (i + 1)) l ne
-    ∙ ap₂ (λ (st : ℕ → ℕ) (x : ℕ). owed k b o st (get_or ps i 0) (pick (eqb x (get_or xs i 0)) 0 (suc (get_or xs i 0))) d (rest_of ps xs ds (i + 1)))
-    (sym (held_set k hs (get_or ps i 0) (get_or xs i 0) lt (omega arith))) (held_at k hs (get_or ps i 0) lt))
+begun : (k b o : ℕ) (hs : List ℕ) (p a d : ℕ) (es : List Event) → o < b → p ≤ places → length hs ≡ places →
+    print k b o (held_in k hs) (event_of p a d ∷ es) ≡ owed k b o (held_in k (then_holding hs p a)) p (sign_needed hs p a) d es
+begun k b o hs p a d es l w h =
+    go (eqb p 70) refl ∙ ap₂ (λ (st : ℕ → ℕ) (s : ℕ). owed k b o st p s d es) (sym (holding_is k hs p a w h)) (sym (needed_is k hs p a w))
+  where
+    go : (c : Bool) → eqb p 70 ≡ c → print k b o (held_in k hs) (event_of p a d ∷ es) ≡ owed k b o (pick c (held_in k hs) (now (held_in k hs) p a)) p (pick c 0 (sign_of (held_in k hs) p a)) d es
+    go true e = begun_rest k b o hs p a d es l e
+    go false e = begun_note k b o hs p a d es l e
 
-pub plain_turn : {ps xs ds : List ℕ} {i : ℕ} (k b t o d : ℕ) (hs : List ℕ) (n : ℕ) → Rowed ps xs ds i → t ≡ 0 → get_or ds i 0 ≡ d → o < b → (get_or ps i 0 ≡ 70 → ⊥) → length hs ≡ places → get_or hs (get_or ps i 0) 0 ≡ get_or xs i 0 →
-    in_voice k b t o hs (rest_of ps xs ds i) n ≡ in_event k b o hs (get_or ps i 0) 0 d (rest_of ps xs ds (i + 1)) n
-plain_turn {ps} {xs} {ds} {i} k b t o d hs n r z w l ne len e =
-    note_turn k b t o d hs n r z w l ne len
-    ∙ ap₂ (λ (ws : List ℕ) (s : ℕ). in_event k b o ws (get_or ps i 0) s d (rest_of ps xs ds (i + 1)) n)
-    (ap (set hs (get_or ps i 0)) (sym e) ∙ set-get_or hs (get_or ps i 0) 0) (pick_true _ _ _ (eq-eqb _ _ e))
-
-pub signed_turn : {ps xs ds : List ℕ} {i : ℕ} (k b t o d : ℕ) (hs : List ℕ) (n : ℕ) → Rowed ps xs ds i → t ≡ 0 → get_or ds i 0 ≡ d → o < b → (get_or ps i 0 ≡ 70 → ⊥) → length hs ≡ places → (get_or hs (get_or ps i 0) 0 ≡ get_or xs i 0 → ⊥) →
-    in_voice k b t o hs (rest_of ps xs ds i) n ≡ in_event k b o (set hs (get_or ps i 0) (get_or xs i 0)) (get_or ps i 0) (get_or xs i 0 + 1) d (rest_of ps xs ds (i + 1)) n
-signed_turn {ps} {xs} {ds} {i} k b t o d hs n r z w l ne len e =
-    let s : suc (get_or xs i 0) ≡ get_or xs i 0 + 1 = omega arith in
-    note_turn k b t o d hs n r z w l ne len
-    ∙ ap (λ (x : ℕ). in_event k b o (set hs (get_or ps i 0) (get_or xs i 0)) (get_or ps i 0) x d (rest_of ps xs ds (i + 1)) n) (pick_false _ _ _ (ne_eqb _ _ e) ∙ s)
+pub begin_turn : (k b t o g : ℕ) (hs ws : List ℕ) (s : ℕ) (r : Row) (es : List Event) (n : ℕ) → all_fine (event_in r ∷ es) ≡ true → g ≡ min t r.length → g ≡ 0 → o < b → length hs ≡ places →
+    s ≡ sign_needed hs r.place r.alteration → ws ≡ then_holding hs r.place r.alteration →
+    in_voice k b t o hs (event_in r ∷ es) n ≡ in_event k b o ws r.place s (r.length - g) es n
+unfolding in_voice in_event
+begin_turn k b t o g hs ws s r es n f e z l h u v =
+    let w = (first r es f).words in
+    let y : t ≡ 0 = omega (arith, w.some) in
+    let d : r.length ≡ r.length - g = omega arith in
+    ap (λ (x : ℕ). so_many (rest_from k b x o (held_in k hs) (event_in r ∷ es)) n) y
+    ∙ ap (λ (ys : List Symbol). so_many ys n) (rest_none k b o (held_in k hs) (event_in r ∷ es) f ∙ begun k b o hs r.place r.alteration r.length es l w.place h)
+    ∙ ap₂ (λ (x : List ℕ) (y : ℕ). so_many (owed k b o (held_in k x) r.place y r.length es) n) (sym v) (sym u)
+    ∙ ap (λ (x : ℕ). so_many (owed k b o (held_in k ws) r.place s x es) n) d
 
 -- an event has ended, and all have
 pub end_turn : (k b t o : ℕ) (hs : List ℕ) (p s d : ℕ) (es : List Event) (n : ℕ) → all_fine es ≡ true → o < b → d ≡ 0 → t ≡ 0 → in_event k b o hs p s d es n ≡ in_voice k b t o hs es n
@@ -170,6 +177,13 @@ end_turn k b t o hs p s d es n f l z y =
     ∙ ap (λ (ys : List Symbol). so_many ys n) (ended k b o (held_in k hs) p s es l ∙ sym (rest_none k b o (held_in k hs) es f))
     ∙ ap (λ (x : ℕ). so_many (rest_from k b x o (held_in k hs) es) n) (sym y)
 
-pub no_event : (k b t o : ℕ) (hs ps xs ds : List ℕ) (i n : ℕ) → length ds ≤ i → length ps ≡ length ds → in_voice k b t o hs (rest_of ps xs ds i) n ≡ []
+pub no_event : (k b t o : ℕ) (hs : List ℕ) (es : List Event) (n : ℕ) → es ≡ [] → in_voice k b t o hs es n ≡ []
 unfolding in_voice rest_from
-no_event k b t o hs ps xs ds i n h e = ap (λ (es : List Event). so_many (rest_from k b t o (held_in k hs) es) n) (voice_end ps xs ds i h e) ∙ so_many_end n
+no_event k b t o hs es n e = ap (λ (es : List Event). so_many (rest_from k b t o (held_in k hs) es) n) e ∙ so_many_end n
+
+-- the events of rows that are left
+pub event_next : (r r' : Rows) (w : Row) → zipped r.places.now r.alterations.now r.lengths.now ≡ w ∷ zipped r'.places.now r'.alterations.now r'.lengths.now → voice_in r ≡ event_in w ∷ voice_in r'
+event_next r r' w e = voice_zipped _ _ _ ∙ ap (map event_in) e ∙ ap (λ (es : List Event). event_in w ∷ es) (sym (voice_zipped _ _ _))
+
+pub event_none : (r : Rows) → zipped r.places.now r.alterations.now r.lengths.now ≡ [] → voice_in r ≡ []
+event_none r e = voice_zipped _ _ _ ∙ ap (map event_in) e

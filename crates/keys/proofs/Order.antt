@@ -1,11 +1,11 @@
 -- A key by the order of its signs, as the code finds it. Assumes nothing.
 use Rattle.std.proofs.Common.{◌≡◌, ℕ, ◌+◌, ◌-◌, ◌*◌, ◌%◌, ◌<◌, ◌≤◌, Bool, true, eqb, ltb, leb, ◌⊎◌, List, [], ◌∷◌, take, sym, refl, ap, ◌∙◌, inl, inr, arith}
 use native.Mathlib.Nat.{mod-mod}
-use Rattle.std.proofs.lemmas.Bool.{le-leb, lt-leb, lt-ltb, le-ltb, eqb-true, cases_lt}
+use Rattle.std.proofs.lemmas.Bool.{le-leb, lt-ltb, eqb-true, cases_lt}
 use Rattle.std.proofs.lemmas.List.{take_all}
 use Rattle.score.specs.Music.{pick}
 use Rattle.score.specs.Print.{among, key}
-use Rattle.score.proofs.Picks.{pick_true, pick_false}
+use Rattle.score.proofs.Picks.{pick_true}
 use Rattle.score.proofs.Tables.{each_below, each_at}
 
 -- the place of a step in the order of sharps, f c g d a e b, and the alteration by it
@@ -53,15 +53,3 @@ key_is k p = go (cases_lt 14 k)
     go : (14 < k) ⊎ (k ≤ 14) → key k p ≡ by_order k (order_of p)
     go (inl h) = past_range k p h ∙ sym (pick_true _ _ _ (le-leb 7 k (omega arith)) ∙ pick_true _ _ _ (lt-ltb (order_of p + 7) k (omega arith)))
     go (inr h) = in_range k p h
-
-pub key_sharp : (k p : ℕ) → 7 ≤ k → order_of p + 7 < k → 3 ≡ key k p
-key_sharp k p a b = sym (key_is k p ∙ pick_true _ _ _ (le-leb 7 k a) ∙ pick_true _ _ _ (lt-ltb (order_of p + 7) k b))
-
-pub key_not_sharp : (k p : ℕ) → 7 ≤ k → k ≤ order_of p + 7 → 2 ≡ key k p
-key_not_sharp k p a b = sym (key_is k p ∙ pick_true _ _ _ (le-leb 7 k a) ∙ pick_false _ _ _ (le-ltb (order_of p + 7) k b))
-
-pub key_flat : (k p : ℕ) → k < 7 → k ≤ order_of p → 1 ≡ key k p
-key_flat k p a b = sym (key_is k p ∙ pick_false _ _ _ (lt-leb 7 k a) ∙ pick_true _ _ _ (le-leb k (order_of p) b))
-
-pub key_not_flat : (k p : ℕ) → k < 7 → order_of p < k → 2 ≡ key k p
-key_not_flat k p a b = sym (key_is k p ∙ pick_false _ _ _ (lt-leb 7 k a) ∙ pick_false _ _ _ (lt-leb k (order_of p) b))

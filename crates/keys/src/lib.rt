@@ -4,13 +4,9 @@
 ghost use Rattle.std.specs.Prelude.{◌≡◌, ◌<◌, ◌≤◌, length};
 ghost use Rattle.score.specs.Music.{places, alterations, tone as tone_of};
 ghost use Rattle.score.specs.Print.{key};
-ghost use Rattle.keys.specs.Held.{key_row, sign_needed, then_holding};
+ghost use Rattle.keys.specs.Held.{key_row, sign_number, sign_needed, then_holding};
 
-/// How many places there are. A slice that says what holds at each of them has so many words.
-pub const PLACES: usize = 70;
-
-/// The place of a silence, which no note has.
-const SILENT: u32 = 70;
+use score::{PLACES, SILENT};
 
 /// The steps of an octave, of which each key alters a few in all octaves.
 const STEPS: u32 = 7;
@@ -24,6 +20,7 @@ const OCTAVE: u64 = 12;
 const HALF_TONES: [u64; 7] = [0, 2, 4, 5, 7, 9, 11];
 
 /// Which tone a place sounds when it is altered so, in half tones.
+#[tactic(auto, unfolding(score::specs::Music::of_step))]
 pub fn tone(place: u32, alteration: u32) -> u64
     ensures is { result ≡ tone_of place alteration }
     ensures small { place < places → alteration < alterations → result < 128 }
@@ -32,6 +29,7 @@ pub fn tone(place: u32, alteration: u32) -> u64
 }
 
 /// How a key alters a place: 1 by a flat, 2 not, 3 by a sharp.
+#[tactic(auto, using(crate::proofs::Order::key_is))]
 pub fn altered_by_key(signature: u32, place: u32) -> u32
     ensures { result ≡ key signature place }
 {
@@ -46,31 +44,33 @@ pub fn altered_by_key(signature: u32, place: u32) -> u32
     }
 }
 
+/// What holds at each place in a bar: an alteration of each. It is lent, and written while events or symbols are read.
+pub type Holds = [u32; PLACES];
+
 /// At the beginning of a bar the key holds at each place.
-pub fn begin_bar(signature: u32, holds: &mut [u32])
-    requires { length holds.old ≡ places }
+pub fn begin_bar(signature: u32, holds: &mut Holds)
     ensures { holds.new ≡ key_row signature }
 {
-    for place in 0..PLACES {
-        holds[place] = altered_by_key(signature, place as u32);
+    for (place, held) in holds.iter_mut().enumerate() {
+        *held = altered_by_key(signature, place as u32);
     }
 }
 
-/// The sign that an event needs where it begins, as `holds` says what holds at each place: none if it is a silence or if its alteration holds, else
-/// that alteration's. From then on its alteration holds at its place.
-pub fn sign_of(holds: &mut [u32], place: u32, alteration: u32) -> u32
-    requires { (length holds.old ≡ places) × ((place ≤ places) × ((place < places → alteration < alterations))) }
-    ensures sign { result ≡ sign_needed holds.old place alteration }
+/// The alteration whose sign an event needs where it begins, as `holds` says what holds at each place: none if it is a silence or if its alteration
+/// holds. From then on its alteration holds at its place.
+pub fn sign_of(holds: &mut Holds, place: u32, alteration: u32) -> Option<u32>
+    requires { place ≤ places }
+    ensures sign { sign_number result ≡ sign_needed holds.old place alteration }
     ensures holds { holds.new ≡ then_holding holds.old place alteration }
 {
     if place == SILENT {
-        return 0;
+        return None;
     }
     let held = holds[place as usize];
     holds[place as usize] = alteration;
     if held == alteration {
-        0
+        None
     } else {
-        alteration + 1
+        Some(alteration)
     }
 }

@@ -1,27 +1,26 @@
--- The table of values searched from the front, and values written one after another. Assumes nothing.
-use Rattle.std.proofs.Common.{◌≡◌, ℕ, ◌+◌, ◌-◌, ◌/◌, ◌%◌, ◌<◌, ◌≤◌, ◌⊎◌, List, ◌++◌, length, get_or, take, drop, set, sym, refl, ap, ◌∙◌, ap₂, inl, inr, append_assoc, append-nil, arith, length-append}
-use Rattle.std.proofs.lemmas.Bool.{le-leb, lt-leb, cases_eq}
-use Rattle.std.proofs.lemmas.List.{drop_more, drop_all, drop-drop, take_more_set, drop-set-lt, take-append-drop, length-take-le, length-set}
+-- The first value that fits, and values written one after another. Assumes nothing.
+use Rattle.std.proofs.Common.{◌≡◌, ℕ, ◌+◌, ◌-◌, ◌/◌, ◌%◌, ◌<◌, ◌≤◌, Bool, true, false, cond, leb, ◌⊎◌, List, [], ◌∷◌, ◌++◌, length, take, drop, set, Some, None, Option, unwrap_or, sym, refl, ap, ◌∙◌, ap₂, inl, inr, append_assoc, append-nil, arith, length-append}
+use Rattle.std.specs.List.{find}
+use Rattle.std.specs.Option.{option_map}
+use Rattle.std.proofs.lemmas.Bool.{cases_eq}
+use Rattle.std.proofs.lemmas.List.{drop-drop, take_more_set, drop-set-lt, take-append-drop, length-take-le, length-set}
+use Rattle.score.specs.Music.{pick}
 use Rattle.score.specs.Print.{all_values, largest, pieces}
-use Rattle.score.proofs.Picks.{pick_true, pick_false}
 use Rattle.lengths.specs.Drawn.{Largest}
-use Rattle.laws.proofs.Pieces.{value_none, value_good, value_some, pieces_first, pieces_none}
+use Rattle.laws.proofs.Pieces.{value_none, value_good, value_some, pieces_first, pieces_next, pieces_none}
 use Rattle.laws.proofs.Few.{count, count_few}
 
 -- the first value that fits is the largest
-largest_here : (vs : List ℕ) (k n : ℕ) → k < length vs → get_or vs k 0 ≤ n → largest n (drop k vs) ≡ get_or vs k 0
+first_fits : (n : ℕ) (vs : List ℕ) → unwrap_or (find (λ v. leb v n) vs) 0 ≡ largest n vs
 unfolding largest
-largest_here vs k n h le = rw (drop_more vs k 0 h) (pick_true _ _ _ (le-leb _ _ le))
+first_fits n [] = refl
+first_fits n (v ∷ vs) = go (leb v n) (first_fits n vs)
+  where
+    go : (b : Bool) → unwrap_or (find (λ v. leb v n) vs) 0 ≡ largest n vs → unwrap_or (cond b (Some v) (find (λ v. leb v n) vs)) 0 ≡ pick b v (largest n vs)
+    go true e = refl
+    go false e = e
 
-largest_later : (vs : List ℕ) (k n : ℕ) → k < length vs → n < get_or vs k 0 → largest n (drop k vs) ≡ largest n (drop (k + 1) vs)
-unfolding largest
-largest_later vs k n h lt = rw (drop_more vs k 0 h) (pick_false _ _ _ (lt-leb _ _ lt))
-
-largest_no : (vs : List ℕ) (k n : ℕ) → length vs ≤ k → largest n (drop k vs) ≡ 0
-unfolding largest
-largest_no vs k n h = rw (drop_all k vs h) refl
-
-pub largest_known : (n v : ℕ) → v ≡ largest n all_values → Largest n v
+largest_known : (n v : ℕ) → v ≡ largest n all_values → Largest n v
 largest_known n v e = go (cases_eq (largest n all_values) 0)
   where
     go : (largest n all_values ≡ 0) ⊎ (largest n all_values ≡ 0 → ⊥) → Largest n v
@@ -31,69 +30,74 @@ largest_known n v e = go (cases_eq (largest n all_values) 0)
         let w = value_good (largest n all_values) g.3 in
         record { is = e; within = omega arith; small = omega arith; three = ap (λ (x : ℕ). x % 3) e ∙ g.2; some = (λ h. omega arith) }
 
--- The search at the i-th value: those before it are too long, so it is the largest if it fits, and where the table ends there is none.
-pub record Searching (n i : ℕ) : Type 0 where
-  pub passed : largest n (drop i all_values) ≡ largest n all_values
-  pub here : i < 12 → get_or all_values i 0 ≤ n → Largest n (get_or all_values i 0)
-  pub none : 12 ≤ i → Largest n 0
+-- so is what a search of the values finds
+pub found_known : (n v : ℕ) (o : Option ℕ) → option_map (λ x. x) o ≡ find (λ v. leb v n) all_values → v ≡ unwrap_or o 0 → Largest n v
+found_known n v None e w = largest_known n v (w ∙ ap (λ o. unwrap_or o 0) e ∙ first_fits n all_values)
+found_known n v (Some x) e w = largest_known n v (w ∙ ap (λ o. unwrap_or o 0) e ∙ first_fits n all_values)
 
-searching : (n i : ℕ) → largest n (drop i all_values) ≡ largest n all_values → Searching n i
-searching n i e = record {
-  passed = e;
-  here = (λ h le. largest_known n (get_or all_values i 0) (sym (largest_here all_values i n h le) ∙ e));
-  none = (λ h. largest_known n 0 (sym (largest_no all_values i n h) ∙ e));
-}
+-- the values of a length, where one fits and where none does
+pub next_value : (n v : ℕ) → 3 ≤ n → v ≡ largest n all_values → pieces n n ≡ v ∷ pieces (n - v) (n - v)
+next_value n v h e = pieces_first n v e (λ z. omega (arith, value_none n (sym e ∙ z)))
 
-pub search_start : (n : ℕ) → Searching n 0
-search_start n = searching n 0 refl
+-- and a row of values that begins, or is over
+pub value_known : (n v : ℕ) (vs : List ℕ) → pieces n n ≡ v ∷ vs → Largest n v × (0 < v) × (vs ≡ pieces (n - v) (n - v))
+value_known n v vs e = go (cases_eq (largest n all_values) 0)
+  where
+    go : (largest n all_values ≡ 0) ⊎ (largest n all_values ≡ 0 → ⊥) → Largest n v × (0 < v) × (vs ≡ pieces (n - v) (n - v))
+    go (inl z) = let f : v ∷ vs ≡ [] = sym e ∙ pieces_none n (value_none n z) in cc
+    go (inr f) =
+        let p = pieces_first n (largest n all_values) refl f in
+        let g = value_some n f in
+        let w : v ≡ largest n all_values = cc in
+        (largest_known n v w, omega arith, (let u : vs ≡ pieces (n - largest n all_values) (n - largest n all_values) = cc in u ∙ ap (λ (x : ℕ). pieces (n - x) (n - x)) (sym w)))
 
-pub search_on : (n i : ℕ) → Searching n i → i < 12 → n < get_or all_values i 0 → Searching n (i + 1)
-search_on n i s h l = searching n (i + 1) (sym (largest_later all_values i n h l) ∙ s.passed)
+pub values_over : (n : ℕ) → pieces n n ≡ [] → n % 3 ≡ 0 → n ≡ 0
+values_over n e m = go (cases_eq n 0)
+  where
+    go : (n ≡ 0) ⊎ (n ≡ 0 → ⊥) → n ≡ 0
+    go (inl z) = z
+    go (inr f) = let p = pieces_next n (largest n all_values) (omega arith) m refl in let z : ◌≡◌ {A = ℕ} 0 1 = cc in absurd (omega arith)
 
 -- Values written over the front of a row that was lent: what is written and what is still owed is all of it, the rest is as it was, and there is
 -- room for what is written.
 unfoldable pub Writing : ℕ → ℕ → ℕ → List ℕ → List ℕ → Type 0
 Writing n at left was out = (take at out ++ pieces left left ≡ pieces n n) × (drop at out ≡ drop at was) × (at ≤ length out)
 
-pub start : (n : ℕ) (out : List ℕ) → Writing n 0 n out out
+pub few : (n : ℕ) → length (pieces n n) ≤ n / 192 + 3
+unfolding count
+few n = count_few n
+
+pub start : (n at left : ℕ) (out : List ℕ) → at ≡ 0 → left ≡ n → Writing n at left out out
 unfolding Writing
-start n out = (refl, refl, omega arith)
+start n at left out e f = (ap₂ (λ (i m : ℕ). take i out ++ pieces m m) e f, refl, omega arith)
+
+-- they are few
+pub counted : (n at left : ℕ) (was out : List ℕ) → Writing n at left was out → at + length (pieces left left) ≤ n / 192 + 3
+unfolding Writing
+counted n at left was out w =
+    let f : length (take at out) + length (pieces left left) ≡ length (pieces n n) = sym (length-append (take at out) (pieces left left)) ∙ ap length w.0 in
+    omega (arith, length-take-le at out w.2, few n)
 
 -- there is room for the next value
-pub room : (n at left : ℕ) (was out : List ℕ) → Writing n at left was out → n / 192 + 3 ≤ length out → 3 ≤ left → at < length out
-unfolding count Writing
-room n at left was out w h l =
-    let f = value_some left (λ z. omega (arith, value_none left z)) in
-    let e : length (take at out) + length (pieces left left) ≡ length (pieces n n) = sym (length-append (take at out) (pieces left left)) ∙ ap length w.0 in
-    let t = length-take-le at out w.2 in
-    let p = ap length (pieces_first left (largest left all_values) refl (λ z. omega arith)) in
-    omega (arith, count_few n)
+pub room : (n at left : ℕ) (was out vs : List ℕ) (v : ℕ) → Writing n at left was out → n / 192 + 3 ≤ length out → pieces left left ≡ v ∷ vs → at < length out
+room n at left was out vs v w r e = omega (arith, ap length e, counted n at left was out w)
 
--- once the largest value is written, what is left is owed: the law by which each turn follows from the one before
-abbrev pub Writes : ℕ → List ℕ → Type 0
-Writes n was = (at left : ℕ) (out : List ℕ) (v : ℕ) → Writing n at left was out → n / 192 + 3 ≤ length out → 3 ≤ left → Largest left v → Writing n (at + 1) (left - v) was (set out at v)
-
-pub writes : (n : ℕ) (was : List ℕ) → Writes n was
+-- and once it is written
+pub write : (n at left rest : ℕ) (was out : List ℕ) (v : ℕ) → Writing n at left was out → n / 192 + 3 ≤ length out → pieces left left ≡ v ∷ pieces rest rest → Writing n (at + 1) rest was (set out at v)
 unfolding Writing
-writes n was at left out v w r l e =
-    let h : at < length out = room n at left was out w r l in
+write n at left rest was out v w r e =
+    let h : at < length out = room n at left was out (pieces rest rest) v w r e in
     let lt : at < at + 1 = omega arith in (
-      rw (take_more_set out at v h, append_assoc) (sym (ap (λ (xs : List ℕ). take at out ++ xs) (pieces_first left v e.is (λ z. omega (arith, e.some l)))) ∙ w.0),
+      rw (take_more_set out at v h, append_assoc) (sym (ap (λ (xs : List ℕ). take at out ++ xs) e) ∙ w.0),
       rw (drop-set-lt, ← drop-drop 1 at out, ← drop-drop 1 at was) (ap (drop 1) w.1),
       simp length-set (omega arith),
     )
 
--- and where no value fits any more, all of it is written
-pub done : (n at left : ℕ) (was out : List ℕ) → Writing n at left was out → left < 3 → (out ≡ pieces n n ++ drop at was) × (at ≡ length (pieces n n)) × (at ≤ n / 192 + 3)
-unfolding count Writing
-done n at left was out w h = (
-  sym (take-append-drop at out) ∙ ap₂ (λ (xs ys : List ℕ). xs ++ ys) all w.1,
-  many,
-  omega (arith, many, count_few n),
-)
+-- and where no value is left, all of it is written
+pub done : (n at left : ℕ) (was out : List ℕ) → Writing n at left was out → pieces left left ≡ [] → out ≡ pieces n n ++ drop (length (pieces n n)) was
+unfolding Writing
+done n at left was out w e =
+    sym (take-append-drop at out) ∙ ap₂ (λ (xs ys : List ℕ). xs ++ ys) all (w.1 ∙ ap (λ (i : ℕ). drop i was) (sym (length-take-le at out w.2) ∙ ap length all))
   where
     all : take at out ≡ pieces n n
-    all = sym (append-nil (take at out)) ∙ ap (λ (xs : List ℕ). take at out ++ xs) (sym (pieces_none left h)) ∙ w.0
-
-    many : at ≡ length (pieces n n)
-    many = sym (length-take-le at out w.2) ∙ ap length all
+    all = sym (append-nil (take at out)) ∙ ap (λ (xs : List ℕ). take at out ++ xs) (sym e) ∙ w.0

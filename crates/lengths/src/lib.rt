@@ -2,25 +2,20 @@
 #![tactic(auto)]
 
 ghost use Rattle.std.specs.Prelude.{◌≡◌, ◌+◌, ◌/◌, ◌≤◌, ◌++◌, length, drop};
+ghost use Rattle.std.specs.Iterator.{YieldsFirst, item_count};
 ghost use Rattle.lengths.specs.Drawn.{Largest, InBar};
 ghost use Rattle.score.specs.Print.{pieces as pieces_of};
 
+use score::SHORTEST;
+
 /// The values that can be drawn, in ticks: from the whole note down to the sixty-fourth, plain or with a dot.
 pub const VALUES: [u32; 12] = [192, 144, 96, 72, 48, 36, 24, 18, 12, 9, 6, 3];
-
-/// The shortest of them.
-const SHORTEST: u32 = 3;
 
 /// The largest value that is not longer than `n`, or 0 where there is none.
 pub fn largest(n: u32) -> u32
     ensures { Largest n result }
 {
-    for v in VALUES {
-        if v <= n {
-            return v;
-        }
-    }
-    0
+    VALUES.into_iter().find(|v| *v <= n).unwrap_or(0)
 }
 
 /// How much of what is left of an event lies in a bar of `measure` ticks, of which `begun` are gone.
@@ -31,6 +26,28 @@ pub fn part_in_bar(left: u32, measure: u32, begun: u32) -> u32
     left.min(measure - begun)
 }
 
+/// The values of a length within one bar, the largest first.
+#[derive(Clone, Copy, PartialEq, Eq, Debug)]
+pub struct ValuesOf(pub u32);
+
+impl Iterator for ValuesOf {
+    type Item = u32;
+
+    ghost next_gives = { YieldsFirst (λ s. pieces_of s.0 s.0) };
+
+    ghost remaining = { item_count (λ s. pieces_of s.0 s.0) };
+
+    #[tactic(auto, using(crate::proofs::Drawing::next_value, laws::proofs::Pieces::pieces_none))]
+    fn next(&mut self) -> Option<u32> {
+        if self.0 < SHORTEST {
+            return None;
+        }
+        let value = largest(self.0);
+        self.0 -= value;
+        Some(value)
+    }
+}
+
 /// Writes a length within one bar as values, the largest first, over the front of `out`, and returns how many they are. Three values are enough for
 /// what is shorter than a whole note.
 pub fn pieces(n: u32, out: &mut [u32]) -> usize
@@ -39,15 +56,10 @@ pub fn pieces(n: u32, out: &mut [u32]) -> usize
     ensures many { result ≡ length (pieces_of n n) }
     ensures few { result ≤ n / 192 + 3 }
 {
-    let mut left = n;
-    let mut at = 0;
-    while left >= SHORTEST {
-        let value = largest(left);
+    for (at, value) in ValuesOf(n).enumerate() {
         out[at] = value;
-        left -= value;
-        at += 1;
     }
-    at
+    ValuesOf(n).count()
 }
 
 #[cfg(test)]

@@ -46,7 +46,7 @@ taken : (o : Option Symbol) (xs : List Symbol) → length (before o xs) ≤ 1 + 
 taken None xs = omega arith
 taken (Some x) xs = omega arith
 
-few_symbols : (bs : List ℕ) → 5 * length (symbols_of bs) ≤ length bs
+pub few_symbols : (bs : List ℕ) → 5 * length (symbols_of bs) ≤ length bs
 unfolding symbols_of
 few_symbols [] = omega arith
 few_symbols (k ∷ []) = omega arith

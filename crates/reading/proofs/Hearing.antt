@@ -1,5 +1,5 @@
 -- Notes that were written down so far, and what is still to be heard: together they are all. Assumes nothing.
-use Rattle.std.proofs.Common.{◌≡◌, ℕ, ◌+◌, ◌-◌, ◌≤◌, List, [], ◌∷◌, ◌++◌, map, length, take, drop, Some, None, Option, sym, refl, ap, ◌∙◌, append_assoc, arith, length-append}
+use Rattle.std.proofs.Common.{◌≡◌, ℕ, ◌+◌, ◌-◌, ◌≤◌, true, List, [], ◌∷◌, ◌++◌, map, length, take, drop, Some, None, Option, sym, refl, ap, ◌∙◌, append_assoc, arith, length-append}
 use borrow.Rule.Slice.PartMut.{put_mid}
 use Rattle.std.proofs.lemmas.List.{append-nil, drop-drop, drop_at, take_at, length-take-le, length-map, map-append}
 use Rattle.score.specs.Music as music
@@ -7,11 +7,9 @@ use Rattle.score.specs.Music.{places}
 use Rattle.score.specs.Print.{Symbol}
 use Rattle.wire.proofs.Written.{put_rest}
 use Rattle.reading.specs.declared.Heard.{Heard}
-use Rattle.reading.specs.Player.{State, after, ends}
-use Rattle.reading.specs.Symbols.{symbols_of}
+use Rattle.reading.specs.Player.{State, can_play, after, ends}
 use Rattle.reading.specs.Told.{heard_meant, listed, notes}
 use Rattle.reading.proofs.Steps.{to_hear, step}
-use Rattle.reading.proofs.Rows.{Found}
 
 -- what is heard of notes as they are listed
 pub one_note : (o : Option Heard) → notes o ≡ map heard_meant (listed o)
@@ -22,14 +20,13 @@ two_notes : (o p : Option Heard) → notes o ++ notes p ≡ map heard_meant (lis
 two_notes None p = one_note p
 two_notes (Some h) p = ap (λ (hs : List music.Heard). heard_meant h ∷ hs) (one_note p)
 
--- one symbol of a row of bytes is played: what ends by it, and what is to be heard behind it
-pub plays_on : (k : ℕ) (x : Symbol) (bs : List ℕ) (at : ℕ) (y z : State) (o p : Option Heard) → Found (drop at bs) x → length y.holds ≡ places → z ≡ after k x y → notes o ++ notes p ≡ ends x y →
-    to_hear k (symbols_of (drop at bs)) y ≡ map heard_meant (listed o ++ listed p) ++ to_hear k (symbols_of (drop (at + 5) bs)) z
-plays_on k x bs at y z o p f l e n =
-    ap (λ (xs : List Symbol). to_hear k xs y) (f.row ∙ ap (λ (cs : List ℕ). x ∷ symbols_of cs) (drop-drop 5 at bs))
-    ∙ step k x (symbols_of (drop (at + 5) bs)) y f.plays l
-    ∙ ap (λ (hs : List music.Heard). hs ++ to_hear k (symbols_of (drop (at + 5) bs)) (after k x y)) (sym n ∙ two_notes o p)
-    ∙ ap (λ (w : State). map heard_meant (listed o ++ listed p) ++ to_hear k (symbols_of (drop (at + 5) bs)) w) (sym e)
+-- one symbol is played: what ends by it, and what is to be heard behind it
+pub plays_on : (k : ℕ) (x : Symbol) (xs : List Symbol) (y z : State) (o p : Option Heard) → can_play x ≡ true → length y.holds ≡ places → z ≡ after k x y → notes o ++ notes p ≡ ends x y →
+    to_hear k (x ∷ xs) y ≡ map heard_meant (listed o ++ listed p) ++ to_hear k xs z
+plays_on k x xs y z o p f l e n =
+    step k x xs y f l
+    ∙ ap (λ (hs : List music.Heard). hs ++ to_hear k xs (after k x y)) (sym n ∙ two_notes o p)
+    ∙ ap (λ (w : State). map heard_meant (listed o ++ listed p) ++ to_hear k xs w) (sym e)
 
 -- of `whole`, the first `at` are in `out`, whose rest is as it was, and `owed` are still to come
 pub record Noted (whole : List music.Heard) (was out : List Heard) (at : ℕ) (owed : List music.Heard) : Type 0 where

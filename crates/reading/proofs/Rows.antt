@@ -1,6 +1,6 @@
 -- The first symbol of a row of bytes, and those behind it. Assumes nothing.
-use Rattle.std.proofs.Common.{◌≡◌, ℕ, ◌≤◌, Bool, true, false, ◌&&◌, List, [], ◌∷◌, ◌++◌, length, drop, Some, None, Option, sym, refl, ap, ◌∙◌, arith}
-use Rattle.std.proofs.lemmas.List.{drop_at}
+use Rattle.std.proofs.Common.{◌≡◌, ℕ, ◌-◌, Bool, true, false, ◌&&◌, List, [], ◌∷◌, ◌++◌, length, take, drop, Some, None, Option, sym, refl, ap, ap₂, ◌∙◌, arith}
+use Rattle.std.proofs.lemmas.List.{drop_at, take_rest}
 use Rattle.std.proofs.lemmas.Bool.{and_parts}
 use Rattle.score.specs.Music.{pick}
 use Rattle.score.specs.Print.{Symbol}
@@ -21,29 +21,29 @@ can (Some w) x e = go (can_play w) refl e
     go true p e = let q : x ≡ w = cc in ap can_play q ∙ p
     go false p e = let z : ◌≡◌ {A = ℕ} 0 1 = cc in absurd (omega arith)
 
-pub record Found (bs : List ℕ) (x : Symbol) : Type 0 where
-  pub plays : can_play x ≡ true
-  pub five : 5 ≤ length bs
-  pub row : symbols_of bs ≡ x ∷ symbols_of (drop 5 bs)
-
-pub found : (bs : List ℕ) (x : Symbol) → Some x ≡ playable (symbol_of bs) → Found bs x
+-- the first symbol, and those behind it
+pub by_first : (bs : List ℕ) → symbols_of bs ≡ before (playable (symbol_of bs)) (symbols_of (take (length bs - 5) (drop 5 bs)))
 unfolding symbols_of
-found [] x e = let z : ◌≡◌ {A = ℕ} 0 1 = cc in absurd (omega arith)
-found (k ∷ []) x e = let z : ◌≡◌ {A = ℕ} 0 1 = cc in absurd (omega arith)
-found (k ∷ (p ∷ [])) x e = let z : ◌≡◌ {A = ℕ} 0 1 = cc in absurd (omega arith)
-found (k ∷ (p ∷ (s ∷ []))) x e = let z : ◌≡◌ {A = ℕ} 0 1 = cc in absurd (omega arith)
-found (k ∷ (p ∷ (s ∷ (l ∷ [])))) x e = let z : ◌≡◌ {A = ℕ} 0 1 = cc in absurd (omega arith)
-found (k ∷ (p ∷ (s ∷ (l ∷ (h ∷ bs))))) x e = record { plays = can (symbol_by k p s (of_two l h)) x e; five = omega arith; row = ap (λ (o : Option Symbol). before o (symbols_of bs)) (sym e) }
+by_first [] = refl
+by_first (k ∷ []) = refl
+by_first (k ∷ (p ∷ [])) = refl
+by_first (k ∷ (p ∷ (s ∷ []))) = refl
+by_first (k ∷ (p ∷ (s ∷ (l ∷ [])))) = refl
+by_first (k ∷ (p ∷ (s ∷ (l ∷ (h ∷ bs))))) = ap (λ (cs : List ℕ). before (playable (symbol_by k p s (of_two l h))) (symbols_of cs)) (sym (take_rest (k ∷ (p ∷ (s ∷ (l ∷ (h ∷ bs))))) 5))
 
--- where none was found, there are no more
-pub none : (bs : List ℕ) → None ≡ playable (symbol_of bs) → symbols_of bs ≡ []
+-- each symbol of a row can be played
+pub first_plays : (bs : List ℕ) (x : Symbol) (xs : List Symbol) → symbols_of bs ≡ x ∷ xs → can_play x ≡ true
 unfolding symbols_of
-none [] e = refl
-none (k ∷ []) e = refl
-none (k ∷ (p ∷ [])) e = refl
-none (k ∷ (p ∷ (s ∷ []))) e = refl
-none (k ∷ (p ∷ (s ∷ (l ∷ [])))) e = refl
-none (k ∷ (p ∷ (s ∷ (l ∷ (h ∷ bs))))) e = ap (λ (o : Option Symbol). before o (symbols_of bs)) (sym e)
+first_plays [] x xs e = cc
+first_plays (k ∷ []) x xs e = cc
+first_plays (k ∷ (p ∷ [])) x xs e = cc
+first_plays (k ∷ (p ∷ (s ∷ []))) x xs e = cc
+first_plays (k ∷ (p ∷ (s ∷ (l ∷ [])))) x xs e = cc
+first_plays (k ∷ (p ∷ (s ∷ (l ∷ (h ∷ bs))))) x xs e = go (playable (symbol_by k p s (of_two l h))) refl e
+  where
+    go : (o : Option Symbol) → playable (symbol_by k p s (of_two l h)) ≡ o → before o (symbols_of bs) ≡ x ∷ xs → can_play x ≡ true
+    go None w e = cc
+    go (Some y) w e = can (symbol_by k p s (of_two l h)) x (let q : y ≡ x = cc in ap Some (sym q) ∙ sym w)
 
 -- symbols that can be played are found again in their bytes
 unfoldable pub all_play : List Symbol → Bool
@@ -55,5 +55,6 @@ unfolding all_play each symbols_of
 symbols_back [] h = refl
 symbols_back (x ∷ xs) h =
     let both = and_parts _ _ h in
-    let e : Some x ≡ playable (symbol_of (symbol_bytes x ++ symbols_bytes xs)) = sym (ap playable (symbol_back x (symbols_bytes xs)) ∙ pick_true _ _ _ both.0) in
-    (found (symbol_bytes x ++ symbols_bytes xs) x e).row ∙ ap (λ (bs : List ℕ). x ∷ symbols_of bs) (drop_at (symbol_bytes x) (symbols_bytes xs) 5 (length_symbol x)) ∙ ap (λ (ys : List Symbol). x ∷ ys) (symbols_back xs both.1)
+    let bs : List ℕ = symbol_bytes x ++ symbols_bytes xs in
+    let e : playable (symbol_of bs) ≡ Some x = ap playable (symbol_back x (symbols_bytes xs)) ∙ pick_true _ _ _ both.0 in
+    by_first bs ∙ ap₂ (λ (o : Option Symbol) (cs : List ℕ). before o (symbols_of cs)) e (take_rest bs 5 ∙ drop_at (symbol_bytes x) (symbols_bytes xs) 5 (length_symbol x)) ∙ ap (λ (ys : List Symbol). x ∷ ys) (symbols_back xs both.1)

@@ -6,7 +6,7 @@ use Rattle.score.specs.Print.{Symbol, bar, head, rest, Held, nothing, held, let_
 use Rattle.score.proofs.Picks.{pick_false}
 use Rattle.keys.specs.Held.{key_row, held_in}
 use Rattle.keys.proofs.Holding.{held_at, held_key, held_set}
-use Rattle.reading.specs.Player.{State, can_play, said, then_held, after, after_head, ends, ends_head}
+use Rattle.reading.specs.Player.{State, can_play, lasts, said, then_held, after, after_head, ends, ends_head}
 
 -- what is still to be heard by a player
 unfoldable pub to_hear : ℕ → List Symbol → State → List Heard
@@ -58,6 +58,11 @@ unfolding to_hear reads
 step k bar xs y c l = ap (λ (st : ℕ → ℕ). reads k xs y.time st y.note) (sym (held_key k (key_row k) refl))
 step k (rest v) xs y c l = refl
 step k (head p s v tied) xs y c l = head_step k p s v tied xs y (ltb-true p places (and_parts _ _ c).0) l
+
+pub time_after : (k : ℕ) (x : Symbol) (y : State) → (after k x y).time ≡ y.time + lasts x
+time_after k bar y = omega arith
+time_after k (rest v) y = refl
+time_after k (head p s v tied) y = refl
 
 -- where reading begins, and where no symbol is left
 pub begins : (k : ℕ) (xs : List Symbol) (hs : List ℕ) → hs ≡ key_row k → to_hear k xs (record { time = 0; holds = hs; note = nothing }) ≡ read_from k xs

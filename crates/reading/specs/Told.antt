@@ -7,7 +7,7 @@ use Rattle.reading.specs.declared.player.Player.{Player}
 use Rattle.reading.specs.Keeps.{held_meant}
 use Rattle.reading.specs.Player.{State}
 
-abbrev pub state_of : ℕ → Held → List ℕ → State
+abbrev pub state_of : ℕ → Option Held → List ℕ → State
 state_of t h hs = record { time = t; holds = hs; note = held_meant h }
 
 abbrev pub state : Player → List ℕ → State

@@ -11,7 +11,7 @@ ghost use Rattle.rows.specs.Rows.{voice_in};
 ghost use Rattle.voices.specs.Said.{said_done, said_number};
 ghost use Rattle.session.specs.Session.{bytes_taken, Says};
 
-use engraving::engrave_page;
+use engraving::voice::Voice;
 use rows::Rows;
 use score::{Call, Layout, Refusal};
 use sounds::heard_in;
@@ -82,7 +82,11 @@ fn print(words: &[u32], span: Span, bar: u32, count: u32, out: &mut [u8]) -> usi
         key: words[0],
         bar: words[1],
     };
-    engrave_page(rows_of(words, span), layout, bar, count, out)
+    let voice = Voice {
+        rows: rows_of(words, span),
+        layout,
+    };
+    voice.engrave_page(bar, count, out)
 }
 
 /// Shows bars of a voice.

@@ -1,165 +1,104 @@
--- One step along a voice: over silences to the next note. Assumes nothing.
-use Rattle.std.proofs.Common.{◌≡◌, ℕ, suc, ◌+◌, ◌-◌, ◌<◌, ◌≤◌, true, List, [], ◌∷◌, length, get_or, take, drop, sum, sym, ap, ◌∙◌, subst, inl, inr, arith}
-use Rattle.std.proofs.lemmas.List.{drop-drop, get_or-drop, length-drop, length-take-le, take_all, take-map, take-append-drop}
-use Rattle.std.proofs.lemmas.List.Sums.{sum_by_more}
-use Rattle.score.specs.Music.{places, alterations, length_end, Event, note, silence, lasts, tone, Heard, heard, total, fine, all_fine}
-use Rattle.score.specs.Calls.{ticks_end, voice}
-use Rattle.laws.specs.Rows.{voice_of}
-use Rattle.laws.proofs.Events.{total-++}
+-- One step along a voice: over a silence, or a note that is heard. Assumes nothing.
+use Rattle.std.proofs.Common.{◌≡◌, ℕ, ◌+◌, ◌<◌, ◌≤◌, take, drop, true, false, List, [], ◌∷◌, map, length, Option, None, Some, sym, ap, ◌∙◌, refl, arith}
+use Rattle.std.proofs.lemmas.Bool.{and_parts}
+use Rattle.std.proofs.lemmas.List.{length-drop, length-take-le}
+use Rattle.std.specs.Prelude.{◌==◌}
+use Rattle.score.specs.Music.{places, alterations, length_end, Event, Heard, heard, total, fine, all_fine}
+use Rattle.score.specs.declared.Sound.{Sound}
+use Rattle.score.specs.Meaning.{sound_meant}
+use Rattle.score.specs.Calls.{voice}
 use Rattle.memory.specs.Store.{places_from, alterations_from, lengths_from, score_of}
-use Rattle.memory.specs.Words.{Holds, Spans, events_at}
-use Rattle.memory.proofs.Scores.{fine_at, fine_parts, fines_voice, short_voice}
-use Rattle.sounds.specs.Spans.{silences, sound_at}
-use Rattle.sounds.specs.Single.{events_yet, heard_yet, Playable}
+use Rattle.memory.specs.Words.{Holds, Spans}
+use Rattle.memory.proofs.Scores.{fines_voice, short_voice}
+use Rattle.score.proofs.Picks.{pick_true, pick_false}
+use Rattle.laws.proofs.Rows.{lasts_words}
+use Rattle.rows.specs.declared.Row.{Row}
+use Rattle.rows.specs.declared.Rows.{Rows}
+use Rattle.rows.specs.Rows.{event_in, voice_in, zipped}
+use Rattle.rows.proofs.Zipped.{voice_zipped}
+use Rattle.sounds.specs.Rows.{heard_at}
+use Rattle.sounds.specs.Single.{rows_yet, events_yet, heard_yet, Playable, IsEven, Steps}
 use Rattle.sounds.specs.declared.single.Notes.{Notes}
-use Rattle.sounds.proofs.Parts.{voice_drop, length_voice, lasts_voice, total_sum, note_fields, Coming, coming}
+use Rattle.sounds.proofs.Parts.{note_fields}
 
--- rows of one length; from index i on, where tick t is, the next note stands at an index and begins at a tick
-module _ (ps xs ds : List ℕ) (i t : ℕ) (lx : length xs ≡ length ps) (ld : length ds ≡ length ps) where
-  abbrev Yet : ℕ → List Event
-  Yet j = voice_of (drop j ps) (drop j xs) (drop j ds)
+-- the events of rows from which one row came
+comes_first : (n m : Rows) (r : Row) → zipped n.places.now n.alterations.now n.lengths.now ≡ r ∷ zipped m.places.now m.alterations.now m.lengths.now → voice_in n ≡ event_in r ∷ voice_in m
+comes_first n m r e =
+    voice_zipped n.places.now n.alterations.now n.lengths.now ∙ ap (map event_in) e
+    ∙ ap (λ (es : List Event). event_in r ∷ es) (sym (voice_zipped m.places.now m.alterations.now m.lengths.now))
 
-  abbrev K : ℕ
-  K = silences (drop i ps)
+heard_silent : (r : Row) (es : List Event) (t : ℕ) → (r.place == places) ≡ true → heard (event_in r ∷ es) t ≡ heard es (t + r.length)
+unfolding heard
+heard_silent r es t h = rw (pick_true (r.place == places) _ _ h) refl
 
-  long : length (Yet i) ≡ length ps - i
-  long = length_voice (drop i ps) (drop i xs) (drop i ds) (simp length-drop (omega arith)) (simp length-drop (omega arith)) ∙ length-drop i ps
+heard_note : (r : Row) (es : List Event) (t : ℕ) → (r.place == places) ≡ false → heard (event_in r ∷ es) t ≡ heard_at r t ∷ heard es (t + r.length)
+unfolding heard
+heard_note r es t h = rw (pick_false (r.place == places) _ _ h) refl
 
-  ticks : (k : ℕ) → total (take k (Yet i)) ≡ sum (take k (drop i ds))
-  ticks k =
-      total_sum (take k (Yet i)) ∙ ap sum (sym (take-map lasts k (Yet i)))
-      ∙ ap (λ (ws : List ℕ). sum (take k ws)) (lasts_voice (drop i ps) (drop i xs) (drop i ds) (simp length-drop (omega arith)) (simp length-drop (omega arith)))
+-- the notes of which a row came, and those that are left
+module _ (n : Notes) (r : Row) (rest : Rows) (p : Playable n) (comes : rows_yet n ≡ r ∷ zipped rest.places.now rest.alterations.now rest.lengths.now) where
+  abbrev pub After : Notes
+  After = record { voice = n.voice; rows = rest; tick = n.tick + r.length }
 
-  whole : take (length ps) (Yet i) ≡ Yet i
-  whole = take_all (length ps) (Yet i) (omega (arith, long))
+  first : events_yet n ≡ event_in r ∷ events_yet After
+  first = comes_first n.rows rest r comes
 
-  ticks_yet : total (Yet i) ≡ sum (drop i ds)
-  ticks_yet = ap total (sym whole) ∙ ticks (length ps) ∙ ap sum (take_all (length ps) (drop i ds) (simp length-drop (omega arith)))
+  all : (fine (event_in r) ≡ true) × (all_fine (events_yet After) ≡ true)
+  unfolding all_fine
+  all = and_parts _ _ (sym (ap all_fine first) ∙ p.fines)
 
-  module _ (at start : ℕ) (at_is : at ≡ i + K) (start_is : start ≡ t + sum (take K (drop i ds))) where
-    nothing_yet : length ps ≤ at → heard (Yet i) t ≡ []
-    nothing_yet l =
-        elim (coming (drop i ps) (drop i xs) (drop i ds) (length ps) t) [
-          | inl c ↦ absurd (omega (arith, c.in_voice, ap length whole, long))
-          | inr s ↦ ap (λ (es : List Event). heard es t) (sym whole) ∙ s.nothing
-        ]
+  pub playable : Playable After
+  unfolding total
+  playable =
+      let t = ap total first in
+      let l = lasts_words r.place r.alteration r.length in
+      record { fines = all.1; short = omega (arith, t, l, p.short) }
 
-    module _ (here : at < length ps) where
-      next : Coming (Yet i) (drop i ps) (drop i xs) (drop i ds) K t
-      next =
-          elim (coming (drop i ps) (drop i xs) (drop i ds) (length ps) t) [
-            | inl c ↦ subst (λ (es : List Event). Coming es (drop i ps) (drop i xs) (drop i ds) K t) whole c
-            | inr s ↦ absurd (omega (arith, s.all_passed, ap length whole, long))
-          ]
+  pub over_silence : (r.place == places) ≡ true → heard_yet After ≡ heard_yet n
+  over_silence h = sym (ap (λ (es : List Event). heard es n.tick) first ∙ heard_silent r (events_yet After) n.tick h)
 
-      later : (ws : List ℕ) → drop (suc K) (drop i ws) ≡ drop (at + 1) ws
-      later ws = let n : i + suc K ≡ at + 1 = omega arith in drop-drop (suc K) i ws ∙ ap (λ (j : ℕ). drop j ws) n
+  note_first : (r.place == places) ≡ false → heard_yet n ≡ heard_at r n.tick ∷ heard_yet After
+  note_first h = ap (λ (es : List Event). heard es n.tick) first ∙ heard_note r (events_yet After) n.tick h
 
-      rest : drop (suc K) (Yet i) ≡ Yet (at + 1)
-      rest = voice_drop (suc K) (drop i ps) (drop i xs) (drop i ds) ∙ rw (later ps, later xs, later ds)
+  pub fields : (r.place == places) ≡ false → (r.place < places) × (r.alteration < alterations) × (r.length < length_end)
+  fields h = note_fields _ _ _ (ap fine (sym (pick_false (r.place == places) _ _ h)) ∙ all.0)
 
-      word : (ws : List ℕ) → get_or (drop i ws) K 0 ≡ get_or ws at 0
-      word ws = get_or-drop i ws K 0 ∙ ap (λ (j : ℕ). get_or ws j 0) (sym at_is)
+  pub gives : (x : Sound) → (r.place == places) ≡ false → sound_meant x ≡ (n.voice, heard_at r n.tick) → Steps n (Some x) After
+  gives x h e = record {
+    same_voice = refl;
+    gives = (ap (λ (y : ℕ × Heard). y.0) e, note_first h ∙ ap (λ (y : ℕ × Heard). y.1 ∷ heard_yet After) (sym e));
+  }
 
-      -- the ticks up to behind the note
-      behind : t + total (take (suc K) (Yet i)) ≡ start + get_or ds at 0
-      behind =
-          let n : suc K ≡ K + 1 = omega arith in
-          let m : sum (take (suc K) (drop i ds)) ≡ sum (take K (drop i ds)) + get_or (drop i ds) K 0 =
-          ap (λ (k : ℕ). sum (take k (drop i ds))) n ∙ sum_by_more (λ x. x) (drop i ds) K 0 (simp length-drop (omega arith)) in
-          omega (arith, ticks (suc K), m, word ds)
+-- and where none came
+pub none_left : (n : Notes) → rows_yet n ≡ [] → heard_yet n ≡ []
+unfolding heard
+none_left n e = rw (voice_zipped n.rows.places.now n.rows.alterations.now n.rows.lengths.now, e) refl
 
-      first_yet : heard (Yet i) t ≡ sound_at ps xs ds at start ∷ heard (Yet (at + 1)) (start + get_or ds at 0)
-      first_yet =
-          let s : t + total (take K (Yet i)) ≡ start = omega (arith, ticks K) in
-          let same : sound_at (drop i ps) (drop i xs) (drop i ds) K start ≡ sound_at ps xs ds at start = rw (word ps, word xs, word ds) in
-          next.first
-          ∙ ap (λ (n : ℕ). sound_at (drop i ps) (drop i xs) (drop i ds) K n ∷ heard (drop (suc K) (Yet i)) (t + total (take (suc K) (Yet i)))) s
-          ∙ ap (λ (h : Heard). h ∷ heard (drop (suc K) (Yet i)) (t + total (take (suc K) (Yet i)))) same
-          ∙ ap (λ (n : ℕ). sound_at ps xs ds at start ∷ heard (drop (suc K) (Yet i)) n) behind
-          ∙ ap (λ (es : List Event). sound_at ps xs ds at start ∷ heard es (start + get_or ds at 0)) rest
-
-      total_yet : start + get_or ds at 0 + total (Yet (at + 1)) ≡ t + total (Yet i)
-      total_yet =
-          let whole_total : total (take (suc K) (Yet i)) + total (drop (suc K) (Yet i)) ≡ total (Yet i) = sym (total-++ (take (suc K) (Yet i)) (drop (suc K) (Yet i))) ∙ ap total (take-append-drop (suc K) (Yet i)) in
-          omega (arith, whole_total, behind, ap total rest)
-
-      module _ (fines : all_fine (Yet i) ≡ true) where
-        fields_yet : (get_or ps at 0 < places) × (get_or xs at 0 < alterations) × (get_or ds at 0 < length_end)
-        fields_yet =
-            let f : fine (get_or (Yet i) K (silence 0)) ≡ true = fine_at (Yet i) K (silence 0) next.in_voice fines in
-            let same : note (get_or (drop i ps) K 0) (get_or (drop i xs) K 0) (get_or (drop i ds) K 0) ≡ note (get_or ps at 0) (get_or xs at 0) (get_or ds at 0) = rw (word ps, word xs, word ds) in
-            note_fields _ _ _ (ap fine (sym (next.event ∙ same)) ∙ f)
-
-        fines_yet : all_fine (Yet (at + 1)) ≡ true
-        fines_yet = ap all_fine (sym rest) ∙ (fine_parts (suc K) (Yet i) fines).1
-
--- the same of the notes of a voice as the code has them
-module _ (n : Notes) (p : Playable n) where
-  pub yet_short : n.tick + sum (drop n.index n.lengths.now) < ticks_end
-  yet_short = omega (arith, p.short, ticks_yet n.places.now n.alterations.now n.lengths.now n.index n.tick p.alterations_too p.lengths_too)
-
-  module _ (at start : ℕ) (at_is : at ≡ n.index + silences (drop n.index n.places.now)) (start_is : start ≡ n.tick + sum (take (silences (drop n.index n.places.now)) (drop n.index n.lengths.now))) where
-    pub over : length n.places.now ≤ at → heard_yet n ≡ []
-    over = nothing_yet n.places.now n.alterations.now n.lengths.now n.index n.tick p.alterations_too p.lengths_too at start at_is start_is
-
-    abbrev pub Then : Notes
-    Then = record { voice = n.voice; places = n.places; alterations = n.alterations; lengths = n.lengths; index = at + 1; tick = start + get_or n.lengths.now at 0 }
-
-    pub record Stepped : Type 0 where
-      pub place : get_or n.places.now at 0 < places
-      pub alteration : get_or n.alterations.now at 0 < alterations
-      pub length_fits : get_or n.lengths.now at 0 < length_end
-      pub heard_first : (high : ℕ) → high ≡ tone (get_or n.places.now at 0) (get_or n.alterations.now at 0) → heard_yet n ≡ record { start = start; long = get_or n.lengths.now at 0; high = high } ∷ heard_yet Then
-      pub playable : Playable Then
-
-    pub stepped : at < length n.places.now → Stepped
-    stepped here =
-        let f = fields_yet n.places.now n.alterations.now n.lengths.now n.index n.tick p.alterations_too p.lengths_too at start at_is start_is here p.fines in
-        let t = total_yet n.places.now n.alterations.now n.lengths.now n.index n.tick p.alterations_too p.lengths_too at start at_is start_is here in
-        record {
-          place = f.0;
-          alteration = f.1;
-          length_fits = f.2;
-          heard_first = λ high q.
-              first_yet n.places.now n.alterations.now n.lengths.now n.index n.tick p.alterations_too p.lengths_too at start at_is start_is here
-              ∙ ap (λ (h : ℕ). record { start = start; long = get_or n.lengths.now at 0; high = h } ∷ heard_yet Then) (sym q);
-          playable = record {
-            alterations_too = p.alterations_too;
-            lengths_too = p.lengths_too;
-            fines = fines_yet n.places.now n.alterations.now n.lengths.now n.index n.tick p.alterations_too p.lengths_too at start at_is start_is here p.fines;
-            short = omega (arith, t, p.short);
-          };
-        }
+-- after silences it is one step still
+pub silences_passed : {n : Notes} (a m : Notes) (o : Option Sound) → n.voice ≡ a.voice → heard_yet n ≡ heard_yet a → Steps n o m → Steps a o m
+silences_passed a m None v h s = record { same_voice = s.same_voice ∙ v; gives = sym h ∙ s.gives }
+silences_passed a m (Some x) v h s = record { same_voice = s.same_voice ∙ v; gives = (s.gives.0 ∙ v, sym h ∙ s.gives.1) }
 
 -- the notes of a voice of words that hold a score, before the first
 pub from_words :
-    {w : List ℕ} {v begin count : ℕ} (n : Notes) (p q r : ℕ) → Holds w → Spans w v begin count → p ≡ places_from w → q ≡ alterations_from w → r ≡ lengths_from w
-    → n.places.now ≡ take (p + begin + count - (p + begin)) (drop (p + begin) w) → n.alterations.now ≡ take (q + begin + count - (q + begin)) (drop (q + begin) w)
-    → n.lengths.now ≡ take (r + begin + count - (r + begin)) (drop (r + begin) w) → n.index ≡ 0 → n.tick ≡ 0
-    → Playable n × (heard_yet n ≡ heard (voice (score_of w) v) 0)
-from_words {w} {v} {begin} {count} n p q r h s ps qs rs a b d i t =
+    {w : List ℕ} {v begin count : ℕ} (n : Notes) → Holds w → Spans w v begin count
+    → n.rows.places.now ≡ take count (drop (places_from w + begin) w) → n.rows.alterations.now ≡ take count (drop (alterations_from w + begin) w)
+    → n.rows.lengths.now ≡ take count (drop (lengths_from w + begin) w) → n.tick ≡ 0
+    → Playable n × IsEven n × (heard_yet n ≡ heard (voice (score_of w) v) 0)
+from_words {w} {v} {begin} {count} n h s x y u t =
     let z = h.size in
     let within = s.within in
-    let x : n.places.now ≡ take count (drop (places_from w + begin) w) = a ∙ part p (places_from w) ps in
-    let y : n.alterations.now ≡ take count (drop (alterations_from w + begin) w) = b ∙ part q (alterations_from w) qs in
-    let u : n.lengths.now ≡ take count (drop (lengths_from w + begin) w) = d ∙ part r (lengths_from w) rs in
-    let ev : events_at w begin count ≡ voice (score_of w) v = s.events in
-    let e : events_yet n ≡ voice (score_of w) v = ap (λ (j : ℕ). voice_of (drop j n.places.now) (drop j n.alterations.now) (drop j n.lengths.now)) i ∙ (cc) in
+    let e : events_yet n ≡ voice (score_of w) v = rw (x, y, u) s.events in
     let lx = ap length x ∙ many (places_from w) (omega arith) in
     let ly = ap length y ∙ many (alterations_from w) (omega arith) in
     let lu = ap length u ∙ many (lengths_from w) (omega arith) in (
       record {
-        alterations_too = ly ∙ sym lx;
-        lengths_too = lu ∙ sym lx;
         fines = ap all_fine e ∙ fines_voice (score_of w) v h.kept.fines;
         short = omega (arith, t, ap total e, short_voice (score_of w) v h.kept.short);
       },
+      (ly ∙ sym lx, lu ∙ sym lx),
       ap (λ (es : List Event). heard es n.tick) e ∙ ap (heard (voice (score_of w) v)) t,
     )
   where
-    part : (m base : ℕ) → m ≡ base → take (m + begin + count - (m + begin)) (drop (m + begin) w) ≡ take count (drop (base + begin) w)
-    part m base q = let c : m + begin + count - (m + begin) ≡ count = omega arith in ap (λ (k : ℕ). take k (drop (m + begin) w)) c ∙ ap (λ (k : ℕ). take count (drop (k + begin) w)) q
-
     many : (base : ℕ) → base + begin + count ≤ length w → length (take count (drop (base + begin) w)) ≡ count
     many base l = length-take-le count (drop (base + begin) w) (simp length-drop (omega arith))

@@ -1,34 +1,33 @@
 -- The slots and cursors of the voices that have been marked, one voice after the other. Assumes nothing.
 use Rattle.std.proofs.Common.{◌≡◌, ℕ, zero, suc, ◌+◌, ◌-◌, ◌*◌, ◌%◌, ◌<◌, ◌≤◌, true, List, [], ◌∷◌, ◌++◌, map, length, get_or, take, drop, set, replicate, sum, sym, refl, ap, ◌∙◌, subst, inl, inr, zero-add, arith}
-use Rattle.std.proofs.lemmas.List.{get_or_past, get_or-set_same, get_or-set_other, length-take, length-drop, take-map, drop_all}
+use Rattle.std.proofs.lemmas.List.{get_or-replicate, length-replicate, get_or_past, get_or-set_same, get_or-set_other, length-take, length-drop, take-map, drop_all}
 use Rattle.std.proofs.lemmas.Bool.{cases_eq, cases_lt}
 use Rattle.score.specs.Music.{Event, lasts, heard, total, all_fine}
 use Rattle.score.specs.Calls.{Score, ticks_end, voice, begins, together}
 use Rattle.laws.specs.Rows.{voice_of}
 use Rattle.laws.proofs.Events.{total_three}
 use Rattle.memory.proofs.Scores.{fines_voice, fine_parts, short_voice}
-use Rattle.sounds.specs.Spans.{from_event, until, starts, mixed, passed, note_ticks, ticks_from, grain, bit, begun, marks, score_in, Laid, left, Ready, all_left}
-use Rattle.sounds.proofs.Bits.{bit_zero, bit_two}
+use Rattle.std.specs.Int.{bit_at}
+use Rattle.sounds.specs.Spans.{from_event, until, starts, mixed, passed, note_ticks, ticks_from, grain, begun, marks, score_in, Laid, left, Ready, all_left}
+use Rattle.std.proofs.lemmas.Nat.Bits.{bit_at-zero, bit_at-lt}
 use Rattle.sounds.proofs.Slots.{Free, Rising, begun_none, marks_other, marks_same}
+use Rattle.sounds.proofs.Walks.{ticks_no_lengths}
 use Rattle.sounds.proofs.Turns.{begun_later, begun_here}
 use Rattle.sounds.proofs.Mixed.{mixed_same, together_mixed}
 use Rattle.sounds.proofs.Parts.{voice_drop, voice_take, lasts_voice, total_sum, voice_dealt, begins_passed, starts_until, rising_starts, rising_later, length_dealt}
 
-not_here : {A : Type 0} (u t m : ℕ) (ms : List ℕ) → bit m u ≡ 1 → begun u t (m ∷ ms) ≡ [] → A
-not_here u t m ms e h = let f : t ∷ begun u (t + grain) ms ≡ [] = sym (begun_here u t m ms e) ∙ h in absurd (let z : ◌≡◌ {A = ℕ} 0 1 = cc in omega arith)
+no_bit : (u t m : ℕ) (ms : List ℕ) → begun u t (m ∷ ms) ≡ [] → bit_at m u ≡ 0
+no_bit u t m ms h = elim (cases_eq (bit_at m u) 1) [
+  | inl e ↦ let f : t ∷ begun u (t + grain) ms ≡ [] = sym (begun_here u t m ms e) ∙ h in cc
+  | inr ne ↦ omega (arith, bit_at-lt m u)
+]
 
 -- a voice that begins no note has no bit
 begun_free : (u t : ℕ) (ms : List ℕ) → begun u t ms ≡ [] → Free u 0 ms
 unfolding begun
-begun_free u t [] h j l = bit_zero u
-begun_free u t (m ∷ ms) h zero l = elim (bit_two m u) [ inl e ↦ e | inr e ↦ not_here u t m ms e h ]
-begun_free u t (m ∷ ms) h (suc j) l =
-    elim (bit_two m u) [ inl e ↦ begun_free u (t + grain) ms (sym (begun_later u t m ms e) ∙ h) j (omega arith) | inr e ↦ not_here u t m ms e h ]
-
-ticks_no_lengths : (e t : ℕ) (ps : List ℕ) → note_ticks e t ps [] ≡ []
-unfolding note_ticks
-ticks_no_lengths e t [] = refl
-ticks_no_lengths e t (p ∷ ps) = refl
+begun_free u t [] h j l = bit_at-zero u
+begun_free u t (m ∷ ms) h zero l = no_bit u t m ms h
+begun_free u t (m ∷ ms) h (suc j) l = begun_free u (t + grain) ms (sym (begun_later u t m ms (no_bit u t m ms h)) ∙ h) j (omega arith)
 
 rising_none : (t e : ℕ) → Rising t e []
 unfolding Rising
@@ -105,7 +104,7 @@ module _ (ns ps xs ds : List ℕ) (first E : ℕ) (laid : Laid ns ps xs ds) (cur
           ]
         where
           no_ticks : length (part ds) ≤ r → Ticks ≡ []
-          no_ticks l = ap (note_ticks E tick (drop r (part ps))) (drop_all r (part ds) l) ∙ ticks_no_lengths E tick _
+          no_ticks l = ticks_no_lengths E tick (drop r (part ps)) (drop r (part ds)) (simp length-drop (omega arith))
 
       module _ (ends : E ≡ grain * (first + length ms)) (room : length ns ≤ length cursors) (before : Marked ns ps xs ds first E cursors ms k) where
         abbrev Then : List ℕ
@@ -162,10 +161,8 @@ pub marked_step :
     → slots ≡ marks k first (ticks_from (grain * (first + length ms)) (take (end - begin) (drop begin ps)) (take (end - begin) (drop begin ds)) r) ms
     → Marked ns ps xs ds first (grain * (first + n)) (set cursors k (begin + r)) slots (k + 1)
 marked_step {ns} {ps} {xs} {ds} {first} {n} {cursors} {ms} {k} {begin} end r slots laid there begins_at ends_at room long before passes reaches done =
-    subst (λ (i : ℕ). Marked ns ps xs ds first (grain * (first + i)) (set cursors k (begin + r)) slots (k + 1)) long
-    (subst (λ (ws : List ℕ). Marked ns ps xs ds first (grain * (first + length ms)) (set cursors k (begin + r)) ws (k + 1)) (sym done)
-    (marked_more ns ps xs ds first (grain * (first + length ms)) laid cursors ms k begin end there begins_at ends_at r passes reaches refl room
-    (subst (λ (i : ℕ). Marked ns ps xs ds first (grain * (first + i)) cursors ms k) (sym long) before)))
+    let ends : grain * (first + n) ≡ grain * (first + length ms) = ap (λ (i : ℕ). grain * (first + i)) (sym long) in
+    rw (done, ← ends) (marked_more ns ps xs ds first (grain * (first + n)) laid cursors ms k begin end there begins_at ends_at r passes reaches ends room before)
 
 -- ---- before the first voice, and after the last
 
@@ -174,13 +171,14 @@ marked_none ns ps xs ds first e n cursors = record {
   whole = λ u l. absurd (omega arith);
   told = λ u l. absurd (omega arith);
   reached = λ u l. absurd (omega arith);
-  free = λ u l. begun_none u (grain * first) (replicate n 0) (λ j q. ap (λ (i : ℕ). bit i u) (zeros n j) ∙ bit_zero u);
+  free = λ u l. begun_none u (grain * first) (replicate n 0) (λ j q. ap (λ (i : ℕ). bit_at i u) (zero_at j) ∙ bit_at-zero u);
 }
   where
-    zeros : (n j : ℕ) → get_or {A = ℕ} (replicate n 0) j 0 ≡ 0
-    zeros zero j = refl
-    zeros (suc n) zero = refl
-    zeros (suc n) (suc j) = zeros n j
+    zero_at : (j : ℕ) → get_or {A = ℕ} (replicate n 0) j 0 ≡ 0
+    zero_at j = elim (cases_lt j n) [
+      | inl l ↦ get_or-replicate {A = ℕ} n j 0 0 l
+      | inr l ↦ get_or_past (replicate {A = ℕ} n 0) j 0 (omega (arith, l, length-replicate {A = ℕ} n 0))
+    ]
 
 module _ (ns ps xs ds : List ℕ) (first e : ℕ) (cursors ms : List ℕ) (all : Marked ns ps xs ds first e cursors ms (length ns)) where
   abbrev S : Score

@@ -1,5 +1,5 @@
 -- Voices in three rows of words: what is heard of them in a span, and which note comes next. Assumes nothing.
-use Rattle.std.proofs.Common.{◌≡◌, ℕ, zero, suc, ◌+◌, ◌-◌, ◌*◌, ◌/◌, ◌%◌, ◌<◌, ◌≤◌, min, Bool, true, false, ◌&&◌, eqb, ltb, leb, ◌⊎◌, List, [], ◌∷◌, map, length, get_or, take, drop, sum, sym, refl, ap, ◌∙◌, inl, inr, add_assoc, suc-add, zero-add, arith}
+use Rattle.std.proofs.Common.{◌≡◌, ℕ, zero, suc, ◌+◌, ◌-◌, ◌*◌, ◌/◌, ◌%◌, ◌<◌, ◌≤◌, min, Bool, true, false, cond, one-add, ◌&&◌, eqb, ltb, leb, ◌⊎◌, List, [], ◌∷◌, map, length, get_or, take, drop, sum, sym, refl, ap, ◌∙◌, inl, inr, add_assoc, suc-add, zero-add, arith}
 use Rattle.std.proofs.lemmas.List.{drop-drop, take_all}
 use Rattle.std.proofs.lemmas.List.Sums.{sum_by-cons}
 use Rattle.std.proofs.lemmas.Bool.{and_parts, and_from, and_left, and_right, cases_lt, le-leb, lt-leb, lt-ltb, le-ltb, ltb-true}
@@ -245,7 +245,7 @@ pub record Silent (es : List Event) (k t : ℕ) : Type 0 where
 
 coming_step :
     (p x d : ℕ) (ps xs ds : List ℕ) (es : List Event) (k t : ℕ) (b : Bool) → Coming es ps xs ds k (t + d) ⊎ Silent es k (t + d)
-    → Coming (pick b (silence d) (note p x d) ∷ es) (p ∷ ps) (x ∷ xs) (d ∷ ds) (pick b (suc k) 0) t ⊎ Silent (pick b (silence d) (note p x d) ∷ es) (pick b (suc k) 0) t
+    → Coming (pick b (silence d) (note p x d) ∷ es) (p ∷ ps) (x ∷ xs) (d ∷ ds) (cond b (suc k) 0) t ⊎ Silent (pick b (silence d) (note p x d) ∷ es) (cond b (suc k) 0) t
 unfolding heard total lasts
 coming_step p x d ps xs ds es k t true (inl c) =
     let a : t + d + total (take k es) ≡ t + (d + total (take k es)) = omega arith in
@@ -268,12 +268,12 @@ coming_step p x d ps xs ds es k t false r =
     }
 
 pub coming : (ps xs ds : List ℕ) (n t : ℕ) → Coming (take n (voice_of ps xs ds)) ps xs ds (silences ps) t ⊎ Silent (take n (voice_of ps xs ds)) (silences ps) t
-unfolding heard voice_of silences
+unfolding heard voice_of
 coming ps xs ds zero t = inr record { all_passed = omega arith; nothing = refl }
 coming [] xs ds (suc n) t = inr record { all_passed = omega arith; nothing = refl }
 coming (p ∷ ps) [] ds (suc n) t = inr record { all_passed = omega arith; nothing = refl }
 coming (p ∷ ps) (x ∷ xs) [] (suc n) t = inr record { all_passed = omega arith; nothing = refl }
-coming (p ∷ ps) (x ∷ xs) (d ∷ ds) (suc n) t = coming_step p x d ps xs ds (take n (voice_of ps xs ds)) (silences ps) t (eqb p places) (coming ps xs ds n (t + d))
+coming (p ∷ ps) (x ∷ xs) (d ∷ ds) (suc n) t = rw (one-add (silences ps)) (coming_step p x d ps xs ds (take n (voice_of ps xs ds)) (silences ps) t (eqb p places) (coming ps xs ds n (t + d)))
 
 -- the same of what begins before tick e, of voice u
 pub record Next (es : List Event) (ps xs ds : List ℕ) (k t u e : ℕ) (y : ℕ × Heard) (ys : Row) : Type 0 where
@@ -282,15 +282,12 @@ pub record Next (es : List Event) (ps xs ds : List ℕ) (k t u e : ℕ) (y : ℕ
   pub sound : y ≡ (u, sound_at ps xs ds k y.1.start)
   pub rest : ys ≡ until u e (heard (drop (suc k) es) (t + total (take (suc k) es)))
 
-no_note : {A : Type 0} (y : ℕ × Heard) (ys : Row) → [] ≡ y ∷ ys → A
-no_note y ys e = absurd (let z : ◌≡◌ {A = ℕ} 0 1 = cc in omega arith)
-
 until_first : (u e : ℕ) (h : Heard) (hs : List Heard) (y : ℕ × Heard) (ys : Row) → until u e (h ∷ hs) ≡ y ∷ ys → (y ≡ (u, h)) × (ys ≡ until u e hs)
 unfolding until
 until_first u e h hs y ys q =
     elim (cases_lt h.start e) [
       | inl l ↦ let f : (u, h) ∷ until u e hs ≡ y ∷ ys = sym (pick_true (ltb h.start e) _ _ (lt-ltb _ _ l)) ∙ q in (cc, cc)
-      | inr l ↦ no_note y ys (sym (pick_false (ltb h.start e) _ _ (le-ltb _ _ l)) ∙ q)
+      | inr l ↦ let f : [] ≡ y ∷ ys = sym (pick_false (ltb h.start e) _ _ (le-ltb _ _ l)) ∙ q in (cc, cc)
     ]
 
 pub next_heard :
@@ -307,5 +304,5 @@ next_heard ps xs ds n t u e y ys h =
             sound = f.0 ∙ ap (λ (i : ℕ). (u, sound_at ps xs ds (silences ps) i)) (sym (ap (λ (z : ℕ × Heard). z.1.start) f.0));
             rest = f.1;
           }
-      | inr s ↦ no_note y ys (ap (until u e) (sym s.nothing) ∙ h)
+      | inr s ↦ let f : [] ≡ y ∷ ys = ap (until u e) (sym s.nothing) ∙ h in cc
     ]

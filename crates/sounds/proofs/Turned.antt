@@ -28,7 +28,7 @@ there ns ps xs ds e cursors u y ys h =
           let n : voice (score_in ns ps xs ds) u ≡ [] = get_or_past (score_in ns ps xs ds) u [] (omega (arith, length_dealt ns (voice_of ps xs ds))) in
           let none : until u e (from_event [] i) ≡ [] = ap (λ (es : List Event). until u e (heard es (total (take i [])))) (drop_all i [] (omega arith)) in
           let f : [] ≡ y ∷ ys = sym none ∙ ap (λ (es : List Event). until u e (from_event es i)) (sym n) ∙ h in
-          absurd (let z : ◌≡◌ {A = ℕ} 0 1 = cc in omega arith)
+          cc
     ]
 
 -- The turn of voice v: its cursor passes over silences to a note, which is next of all that is left.

@@ -4,8 +4,10 @@ use lib.Bits.{bit_xor}
 use Rattle.std.proofs.lemmas.Bool.{cases_eq, eq-eqb, ne_eqb}
 use Rattle.score.specs.Music.{pick, Heard}
 use Rattle.score.proofs.Picks.{pick_true, pick_false, pick_both}
-use Rattle.sounds.specs.Spans.{Row, starts, mixed, grain, bit, begun, Begin}
-use Rattle.sounds.proofs.Bits.{bit_zero, flip_same, flip_other, Lowest}
+use Rattle.std.specs.Int.{bit_at}
+use Rattle.sounds.specs.Spans.{Row, starts, mixed, grain, begun, Begin}
+use Rattle.std.proofs.lemmas.Nat.Bits.{bit_at-zero}
+use Rattle.sounds.proofs.Bits.{flip_same, flip_other, Lowest}
 use Rattle.sounds.proofs.Mixed.{From, mixed_next, mixed_none}
 
 unfoldable Least : ℕ → List ℕ → Type 0
@@ -20,7 +22,7 @@ least_later t r (x ∷ xs) l h = omega arith
 begun_least : (u t : ℕ) (ms : List ℕ) → Least t (begun u t ms)
 unfolding begun Least
 begun_least u t [] = tt
-begun_least u t (m ∷ ms) = pick_both (Least t) (eqb (bit m u) 1) _ _ (λ _. omega arith) (λ _. least_later t (t + grain) _ (omega arith) (begun_least u (t + grain) ms))
+begun_least u t (m ∷ ms) = pick_both (Least t) (eqb (bit_at m u) 1) _ _ (λ _. omega arith) (λ _. least_later t (t + grain) _ (omega arith) (begun_least u (t + grain) ms))
 
 from_starts : (t : ℕ) (xs : Row) (ts : List ℕ) → starts xs ≡ ts → Least t ts → From t xs
 unfolding Least From
@@ -28,15 +30,15 @@ from_starts t [] ts e h = tt
 from_starts t (x ∷ xs) ts e h = subst (Least t) (sym e) h
 
 -- of a voice that has no bit in the slot
-pub begun_later : (u t m : ℕ) (ms : List ℕ) → bit m u ≡ 0 → begun u t (m ∷ ms) ≡ begun u (t + grain) ms
+pub begun_later : (u t m : ℕ) (ms : List ℕ) → bit_at m u ≡ 0 → begun u t (m ∷ ms) ≡ begun u (t + grain) ms
 unfolding begun
-begun_later u t m ms z = pick_false (eqb (bit m u) 1) _ _ (ne_eqb _ _ (λ e. omega arith))
+begun_later u t m ms z = pick_false (eqb (bit_at m u) 1) _ _ (ne_eqb _ _ (λ e. omega arith))
 
-pub begun_here : (u t m : ℕ) (ms : List ℕ) → bit m u ≡ 1 → begun u t (m ∷ ms) ≡ t ∷ begun u (t + grain) ms
+pub begun_here : (u t m : ℕ) (ms : List ℕ) → bit_at m u ≡ 1 → begun u t (m ∷ ms) ≡ t ∷ begun u (t + grain) ms
 unfolding begun
-begun_here u t m ms e = pick_true (eqb (bit m u) 1) _ _ (eq-eqb _ _ e)
+begun_here u t m ms e = pick_true (eqb (bit_at m u) 1) _ _ (eq-eqb _ _ e)
 
-begun_alike : (u t m w : ℕ) (ms : List ℕ) → bit m u ≡ bit w u → begun u t (m ∷ ms) ≡ begun u t (w ∷ ms)
+begun_alike : (u t m w : ℕ) (ms : List ℕ) → bit_at m u ≡ bit_at w u → begun u t (m ∷ ms) ≡ begun u t (w ∷ ms)
 unfolding begun
 begun_alike u t m w ms e = ap (λ (n : ℕ). pick (eqb n 1) (t ∷ begun u (t + grain) ms) (begun u (t + grain) ms)) e
 
@@ -49,7 +51,7 @@ pub record First (xs : Row) (t : ℕ) (ts : List ℕ) : Type 0 where
   pub after : starts rest ≡ ts
 
 first_of : (xs : Row) (t : ℕ) (ts : List ℕ) → starts xs ≡ t ∷ ts → First xs t ts
-first_of [] t ts e = absurd (let z : ◌≡◌ {A = ℕ} 0 1 = cc in omega arith)
+first_of [] t ts e = cc
 first_of (x ∷ xs) t ts e = record { note = x; rest = xs; is = refl; starts_at = cc; after = cc }
 
 module _ (f : ℕ → Row) (t m v : ℕ) (ms : List ℕ) (b : Begin f t (m ∷ ms)) (low : Lowest m v) where
@@ -78,12 +80,12 @@ module _ (f : ℕ → Row) (t m v : ℕ) (ms : List ℕ) (b : Begin f t (m ∷ m
 
 -- a slot without bits
 pub begin_later : (f : ℕ → Row) (t m : ℕ) (ms : List ℕ) → m ≡ 0 → Begin f t (m ∷ ms) → Begin f (t + grain) ms
-begin_later f t m ms z b = record { told = λ u. b.told u ∙ begun_later u t m ms (ap (λ (n : ℕ). bit n u) z ∙ bit_zero u) }
+begin_later f t m ms z b = record { told = λ u. b.told u ∙ begun_later u t m ms (ap (λ (n : ℕ). bit_at n u) z ∙ bit_at-zero u) }
 
 -- and no more slots
 no_notes : (xs : Row) → starts xs ≡ [] → xs ≡ []
 no_notes [] e = refl
-no_notes (x ∷ xs) e = absurd (let z : ◌≡◌ {A = ℕ} 0 1 = cc in omega arith)
+no_notes (x ∷ xs) e = cc
 
 pub begin_none : (f : ℕ → Row) (t n : ℕ) → Begin f t [] → mixed f n 0 ≡ []
 unfolding begun

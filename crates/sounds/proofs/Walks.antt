@@ -2,11 +2,11 @@
 use Rattle.std.proofs.Common.{◌≡◌, ℕ, suc, ◌+◌, ◌-◌, ◌/◌, ◌^◌, ◌<◌, ◌≤◌, eqb, ltb, List, [], ◌∷◌, length, get_or, take, drop, set, sum, refl, ap, ◌∙◌, arith}
 use lib.Bits.{bit_or}
 use Rattle.std.proofs.lemmas.List.{drop_more, drop_all, take_rest}
-use Rattle.std.proofs.lemmas.List.Sums.{sum_by-cons, sum_by_more, sum_by-drop_more, sum_by-take-le}
+use Rattle.std.proofs.lemmas.List.Sums.{sum_by_more, sum_by-take-le}
 use Rattle.std.proofs.lemmas.Bool.{lt-ltb, le-ltb, eq-eqb, ne_eqb}
-use Rattle.score.specs.Music.{pick, places}
+use Rattle.score.specs.Music.{places}
 use Rattle.score.proofs.Picks.{pick_true, pick_false}
-use Rattle.sounds.specs.Spans.{grain, passed, note_ticks, ticks_from, silences, marks}
+use Rattle.sounds.specs.Spans.{grain, passed, note_ticks, ticks_from, marks}
 
 -- ---- events that begin before a tick
 
@@ -36,27 +36,27 @@ ticks_late e t [] ds h = refl
 ticks_late e t (p ∷ ps) [] h = refl
 ticks_late e t (p ∷ ps) (d ∷ ds) h = pick_false (ltb t e) _ _ (le-ltb _ _ h)
 
-pub ticks_none : (e t i : ℕ) (ps ds : List ℕ) → length ps ≤ i → note_ticks e t (drop i ps) (drop i ds) ≡ []
-unfolding note_ticks
-ticks_none e t i ps ds h = ap (λ (qs : List ℕ). note_ticks e t qs (drop i ds)) (drop_all i ps h)
-
-module _ (e t i : ℕ) (ps ds : List ℕ) (lp : i < length ps) (ld : i < length ds) (h : t < e) where
-  abbrev Rest : List ℕ
-  Rest = note_ticks e (t + get_or ds i 0) (drop (i + 1) ps) (drop (i + 1) ds)
-
-  here : note_ticks e t (drop i ps) (drop i ds) ≡ pick (eqb (get_or ps i 0) places) Rest (t ∷ Rest)
+-- past one event that begins before the end of the slots: a silence, or a note, whose slot is marked
+module _ (e t p d : ℕ) (ps ds : List ℕ) (before : t < e) (v first : ℕ) (ms : List ℕ) where
+  pub marks_silence : p ≡ places → marks v first (note_ticks e t (p ∷ ps) (d ∷ ds)) ms ≡ marks v first (note_ticks e (t + d) ps ds) ms
   unfolding note_ticks
-  here =
-      ap (λ (qs : List ℕ). note_ticks e t qs (drop i ds)) (drop_more ps i 0 lp)
-      ∙ ap (note_ticks e t (get_or ps i 0 ∷ drop (i + 1) ps)) (drop_more ds i 0 ld) ∙ pick_true (ltb t e) _ _ (lt-ltb _ _ h)
+  marks_silence q = rw (pick_true (ltb t e) _ _ (lt-ltb _ _ before), pick_true (eqb p places) _ _ (eq-eqb _ _ q)) refl
 
-  module _ (v first : ℕ) (ms : List ℕ) where
-    pub marks_silence : get_or ps i 0 ≡ places → marks v first (note_ticks e t (drop i ps) (drop i ds)) ms ≡ marks v first Rest ms
-    marks_silence q = ap (λ (ts : List ℕ). marks v first ts ms) (here ∙ pick_true (eqb (get_or ps i 0) places) _ _ (eq-eqb _ _ q))
+  pub marks_note : (p ≡ places → ⊥) → marks v first (note_ticks e t (p ∷ ps) (d ∷ ds)) ms ≡ marks v first (note_ticks e (t + d) ps ds) (set ms (t / grain - first) (bit_or (get_or ms (t / grain - first) 0) (2 ^ v)))
+  unfolding note_ticks marks
+  marks_note q = rw (pick_true (ltb t e) _ _ (lt-ltb _ _ before), pick_false (eqb p places) _ _ (ne_eqb _ _ q)) refl
 
-    pub marks_note : (get_or ps i 0 ≡ places → ⊥) → marks v first (note_ticks e t (drop i ps) (drop i ds)) ms ≡ marks v first Rest (set ms (t / grain - first) (bit_or (get_or ms (t / grain - first) 0) (2 ^ v)))
-    unfolding marks
-    marks_note q = ap (λ (ts : List ℕ). marks v first ts ms) (here ∙ pick_false (eqb (get_or ps i 0) places) _ _ (ne_eqb _ _ q))
+-- no event is left, where one of the rows ends
+pub ticks_no_places : (e t : ℕ) (ps ds : List ℕ) → length ps ≡ 0 → note_ticks e t ps ds ≡ []
+unfolding note_ticks
+ticks_no_places e t [] ds h = refl
+ticks_no_places e t (p ∷ ps) ds h = absurd (omega arith)
+
+pub ticks_no_lengths : (e t : ℕ) (ps ds : List ℕ) → length ds ≡ 0 → note_ticks e t ps ds ≡ []
+unfolding note_ticks
+ticks_no_lengths e t [] ds h = refl
+ticks_no_lengths e t (p ∷ ps) [] h = refl
+ticks_no_lengths e t (p ∷ ps) (d ∷ ds) h = absurd (omega arith)
 
 pub marks_none : (v first : ℕ) (ts ms : List ℕ) → ts ≡ [] → marks v first ts ms ≡ ms
 unfolding marks
@@ -67,34 +67,3 @@ pub marks_rest :
     (v first e tick r : ℕ) (ps ds ms slots : List ℕ) → slots ≡ marks v first (note_ticks e tick (take (length ps - r) (drop r ps)) (take (length ds - r) (drop r ds))) ms → tick ≡ sum (take r ds)
     → slots ≡ marks v first (ticks_from e ps ds r) ms
 marks_rest v first e tick r ps ds ms slots h t = let p = take_rest ps r in let d = take_rest ds r in cc
-
--- ---- silences that come first
-
-pub silences_more : (i : ℕ) (ps : List ℕ) → i < length ps → get_or ps i 0 ≡ places → i + silences (drop i ps) ≡ i + 1 + silences (drop (i + 1) ps)
-unfolding silences
-silences_more i ps l q =
-    let e : silences (drop i ps) ≡ suc (silences (drop (i + 1) ps)) = ap silences (drop_more ps i 0 l) ∙ pick_true (eqb (get_or ps i 0) places) _ _ (eq-eqb _ _ q) in
-    omega arith
-
-pub silences_none : (i : ℕ) (ps : List ℕ) → i < length ps → (get_or ps i 0 ≡ places → ⊥) → silences (drop i ps) ≡ 0
-unfolding silences
-silences_none i ps l q = ap silences (drop_more ps i 0 l) ∙ pick_false (eqb (get_or ps i 0) places) _ _ (ne_eqb _ _ q)
-
-pub silences_all : (i : ℕ) (ps : List ℕ) → length ps ≤ i → silences (drop i ps) ≡ 0
-unfolding silences
-silences_all i ps h = ap silences (drop_all i ps h)
-
--- and how long they are
-pub silent_more :
-    (i : ℕ) (ps ds : List ℕ) → i < length ps → i < length ds → get_or ps i 0 ≡ places
-    → sum (take (silences (drop i ps)) (drop i ds)) ≡ get_or ds i 0 + sum (take (silences (drop (i + 1) ps)) (drop (i + 1) ds))
-unfolding silences
-silent_more i ps ds l m q =
-    let e : silences (drop i ps) ≡ suc (silences (drop (i + 1) ps)) = ap silences (drop_more ps i 0 l) ∙ pick_true (eqb (get_or ps i 0) places) _ _ (eq-eqb _ _ q) in
-    ap (λ (n : ℕ). sum (take n (drop i ds))) e ∙ ap (λ (xs : List ℕ). sum (take (suc (silences (drop (i + 1) ps))) xs)) (drop_more ds i 0 m) ∙ sum_by-cons (λ x. x) (get_or ds i 0) (take (silences (drop (i + 1) ps)) (drop (i + 1) ds))
-
-pub silent_none : (i : ℕ) (ps ds : List ℕ) → silences (drop i ps) ≡ 0 → sum (take (silences (drop i ps)) (drop i ds)) ≡ 0
-silent_none i ps ds z = ap (λ (n : ℕ). sum (take n (drop i ds))) z
-
-pub rest_more : (i : ℕ) (ds : List ℕ) → i < length ds → sum (drop i ds) ≡ get_or ds i 0 + sum (drop (i + 1) ds)
-rest_more i ds l = sum_by-drop_more (λ x. x) ds i 0 l

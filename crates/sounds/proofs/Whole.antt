@@ -1,5 +1,5 @@
 -- The score in lent words is the one in their rows; and a span of ticks is one of slots. Assumes nothing.
-use Rattle.std.proofs.Common.{◌≡◌, ℕ, ◌+◌, ◌-◌, ◌*◌, ◌≤◌, true, List, length, take, drop, replicate, sym, refl, ap, ◌∙◌, arith}
+use Rattle.std.proofs.Common.{◌≡◌, ℕ, ◌+◌, ◌-◌, ◌*◌, ◌≤◌, true, List, length, take, drop, sum, replicate, sym, refl, ap, ◌∙◌, arith}
 use Rattle.std.proofs.lemmas.List.{drop-drop, length-take, length-take-le, length-drop, length-replicate, take-replicate}
 use Rattle.score.specs.Calls.{Score, voice, none_too_long, together}
 use Rattle.memory.specs.Store.{parted, voices_in, limit_in, places_from, alterations_from, lengths_from, score_of, all_fines}
@@ -12,41 +12,37 @@ use Rattle.sounds.proofs.Parts.{up, begins_slots}
 
 -- ---- the rows of words that hold a score
 
-module _ (w : List ℕ) (h : Holds w) (p q r : ℕ) (ps : p ≡ places_from w) (qs : q ≡ alterations_from w) (rs : r ≡ lengths_from w) where
+module _ (w : List ℕ) (h : Holds w) where
   abbrev C : List ℕ
-  C = take (4 + voices_in w - 4) (drop 4 w)
+  C = take (voices_in w) (drop 4 w)
 
-  abbrev P : List ℕ
-  P = take (q - p) (drop p w)
+  abbrev region : ℕ → List ℕ
+  region base = take (limit_in w) (drop base w)
 
-  abbrev Q : List ℕ
-  Q = take (r - q) (drop q w)
+  row_at : (base i : ℕ) → base ≡ 4 + i → region base ≡ take (limit_in w) (drop i (drop 4 w))
+  row_at base i e = ap region e ∙ ap (take (limit_in w)) (sym (drop-drop i 4 w))
 
-  abbrev R : List ℕ
-  R = take (length w - r) (drop r w)
-
-  row_at : (n k i : ℕ) → n ≡ limit_in w → k ≡ 4 + i → take n (drop k w) ≡ take (limit_in w) (drop i (drop 4 w))
-  row_at n k i a b = ap (λ (m : ℕ). take m (drop k w)) a ∙ ap (λ (m : ℕ). take (limit_in w) (drop m w)) b ∙ ap (take (limit_in w)) (sym (drop-drop i 4 w))
-
-  pub rows_score : score_in C P Q R ≡ score_of w
+  rows_score : score_in C (region (places_from w)) (region (alterations_from w)) (region (lengths_from w)) ≡ score_of w
   unfolding parted
   rows_score =
-      let z = h.size in
-      let c : C ≡ take (voices_in w) (drop 4 w) = ap (λ (n : ℕ). take n (drop 4 w)) (omega arith) in
-      let a = row_at (q - p) p (2 * voices_in w) (omega arith) (omega arith) in
-      let b = row_at (r - q) q (2 * voices_in w + limit_in w) (omega arith) (omega arith) in
-      let d = row_at (length w - r) r (2 * voices_in w + limit_in w + limit_in w) (omega arith) (omega arith) in
+      let a = row_at (places_from w) (2 * voices_in w) refl in
+      let b = row_at (alterations_from w) (2 * voices_in w + limit_in w) (omega arith) in
+      let d = row_at (lengths_from w) (2 * voices_in w + limit_in w + limit_in w) (omega arith) in
       cc
 
-  pub rows_laid : Laid C P Q R
+  region_long : (base : ℕ) → base + limit_in w ≤ length w → length (region base) ≡ limit_in w
+  region_long base l = length-take-le (limit_in w) (drop base w) (simp length-drop (omega arith))
+
+  rows_laid : Laid C (region (places_from w)) (region (alterations_from w)) (region (lengths_from w))
   rows_laid =
       let z = h.size in
       let k = h.kept in
-      let c = length-take (4 + voices_in w - 4) (drop 4 w) in
-      let a : length P ≡ limit_in w = length-take-le (q - p) (drop p w) (simp length-drop (omega arith)) ∙ omega arith in
-      let b : length Q ≡ limit_in w = length-take-le (r - q) (drop q w) (simp length-drop (omega arith)) ∙ omega arith in
-      let d : length R ≡ limit_in w = length-take-le (length w - r) (drop r w) (simp length-drop (omega arith)) ∙ omega arith in
-      let n = counts_sum w h (voices_in w) (omega arith) in
+      let c = length-take (voices_in w) (drop 4 w) in
+      let a = region_long (places_from w) (omega arith) in
+      let b = region_long (alterations_from w) (omega arith) in
+      let d = region_long (lengths_from w) (omega arith) in
+      let all : voices_in w ≡ 4 + voices_in w - 4 = omega arith in
+      let n = ap (λ (k : ℕ). sum (take k (drop 4 w))) all ∙ counts_sum w h (voices_in w) (omega arith) in
       let m = all_before w h in
       record {
         few_voices = omega (arith, c, h.few_voices);
@@ -58,6 +54,11 @@ module _ (w : List ℕ) (h : Holds w) (p q r : ℕ) (ps : p ≡ places_from w) (
         fines = ap all_fines rows_score ∙ k.fines;
       }
 
+-- the same of rows that are these
+pub laid_of : {w ns ps xs ds : List ℕ} → Holds w → ns ≡ take (voices_in w) (drop 4 w) → ps ≡ take (limit_in w) (drop (places_from w) w)
+    → xs ≡ take (limit_in w) (drop (alterations_from w) w) → ds ≡ take (limit_in w) (drop (lengths_from w) w) → Laid ns ps xs ds × (score_in ns ps xs ds ≡ score_of w)
+laid_of {w} h n p x d = rw (n, p, x, d) (rows_laid w h, rows_score w h)
+
 -- ---- slots
 
 together_slots : (s : Score) (a b : ℕ) → all_fines s ≡ true → together s 0 a b ≡ together s 0 (grain * up a) (grain * (up a + (up b - up a)))
@@ -67,17 +68,12 @@ together_slots s a b f =
     ∙ sym (together_mixed s (grain * up a) (grain * (up a + (up b - up a))))
 
 -- of empty slots, the first n
-pub slots_empty : (n m : ℕ) → n ≤ m → take (n - 0) (replicate {A = ℕ} m 0) ≡ replicate n 0
-slots_empty n m h = ap (λ (k : ℕ). take k (replicate {A = ℕ} m 0)) (omega arith) ∙ take-replicate {X = ℕ} n m 0 h
+pub slots_many : (n m : ℕ) → n ≤ m → length (take n (replicate {A = ℕ} m 0)) ≡ n
+slots_many n m h = length-take-le n (replicate {A = ℕ} m 0) (omega (arith, h, length-replicate {A = ℕ} m 0))
 
-pub slots_many : (n m : ℕ) → n ≤ m → length (take (n - 0) (replicate {A = ℕ} m 0)) ≡ n
-slots_many n m h = ap length (slots_empty n m h) ∙ length-replicate {A = ℕ} n 0
+pub slots_empty : (n m : ℕ) → n ≤ m → take n (replicate {A = ℕ} m 0) ≡ replicate (length (take n (replicate {A = ℕ} m 0))) 0
+slots_empty n m h = take-replicate {X = ℕ} n m 0 h ∙ ap (λ (k : ℕ). replicate k 0) (sym (slots_many n m h))
 
 -- what is heard in a span of ticks, and in the slots that the code takes for it
-pub span_heard : {s : Score} {w : List ℕ} (a b first n k : ℕ) → Holds w → s ≡ score_of w → first ≡ up a → n ≡ up b - first → k ≡ n → together s 0 (grain * first) (grain * (first + k)) ≡ together (score_of w) 0 a b
-span_heard {s} {w} a b first n k h e f g q =
-    let m : k ≡ up b - up a = omega arith in
-    let t = together_slots (score_of w) a b h.kept.fines in
-    ap (λ (x : Score). together x 0 (grain * first) (grain * (first + k))) e
-    ∙ ap (λ (i : ℕ). together (score_of w) 0 (grain * first) (grain * (first + i))) m
-    ∙ ap (λ (i : ℕ). together (score_of w) 0 (grain * i) (grain * (i + (up b - up a)))) f ∙ sym t
+pub span_heard : (s : Score) (a b first n k : ℕ) → all_fines s ≡ true → first ≡ up a → n ≡ up b - first → k ≡ n → together s 0 (grain * first) (grain * (first + k)) ≡ together s 0 a b
+span_heard s a b first n k h f g q = let m : k ≡ up b - up a = omega arith in rw (m, f) (sym (together_slots s a b h))

@@ -1,9 +1,9 @@
 -- What is written of all voices so far and what is still left of them come to the same in every turn. Assumes nothing.
-use Rattle.std.proofs.Common.{◌≡◌, ℕ, ◌+◌, ◌-◌, ◌*◌, ◌^◌, ◌<◌, ◌≤◌, List, [], ◌∷◌, ◌++◌, length, get_or, take, drop, set, sym, refl, ap, ◌∙◌, subst, arith}
+use Rattle.std.proofs.Common.{◌≡◌, ℕ, ◌+◌, ◌-◌, ◌*◌, ◌^◌, ◌<◌, ◌≤◌, List, [], ◌∷◌, ◌++◌, length, get_or, take, drop, set, sym, ap, ◌∙◌, subst, arith}
 use borrow.Rule.Slice.PartMut.{put_mid}
 use lib.Bits.{bit_xor}
 use lib.Count.{count_trailing_zeros}
-use Rattle.std.proofs.lemmas.List.{append_assoc, append-nil, length-append, length-take-le, take-append-drop, take_at, drop_at, drop-drop}
+use Rattle.std.proofs.lemmas.List.{append_assoc, append-nil, length-append, length-take-le, length-set, take-append-drop, take_at, drop_at, drop-drop}
 use Rattle.score.specs.Music.{Heard}
 use Rattle.wire.specs.Bytes.{sound_bytes, each, sounds_bytes}
 use Rattle.wire.proofs.Written.{put_rest}
@@ -15,50 +15,51 @@ use Rattle.sounds.proofs.Turned.{Turned, turned}
 -- out of n notes that are left at the start, with the bytes as they came then, to here
 pub record Writing (ns ps xs ds : List ℕ) (e : ℕ) (start : List ℕ) (came : List ℕ) (from : ℕ) (cursors out : List ℕ) (count t : ℕ) (ms : List ℕ) : Type 0 where
   pub ready : Ready ns ps xs ds e cursors t ms
+  pub enough : length ns ≤ length cursors
   pub front : take (8 * count) out ++ sounds_bytes (all_left ns ps xs ds e cursors) ≡ take (8 * from) came ++ sounds_bytes (all_left ns ps xs ds e start)
   pub back : drop (8 * count) out ≡ drop (8 * count) came
   pub more : from ≤ count
   pub many : count + length (all_left ns ps xs ds e cursors) ≡ from + length (all_left ns ps xs ds e start)
 
 module _ {ns ps xs ds : List ℕ} {e : ℕ} where
-  pub writing_start : {cursors out : List ℕ} {count t : ℕ} {ms : List ℕ} → Ready ns ps xs ds e cursors t ms → Writing ns ps xs ds e cursors out count cursors out count t ms
-  writing_start r = record { ready = r; front = refl; back = refl; more = omega arith; many = refl }
-
   -- while the slot has bits, the lowest says whose turn it is
   pub writing_next :
-      {start came : List ℕ} {from : ℕ} {cursors out : List ℕ} {count t m : ℕ} {ms : List ℕ} → Laid ns ps xs ds → length ns ≤ length cursors
+      {start came : List ℕ} {from : ℕ} {cursors out : List ℕ} {count t m : ℕ} {ms : List ℕ} → Laid ns ps xs ds
       → Writing ns ps xs ds e start came from cursors out count t (m ∷ ms) → (m ≡ 0 → ⊥) → m < 2 ^ 64
       → (at : ℕ) → at ≡ get_or cursors (count_trailing_zeros 64 m) 0 + silences (drop (get_or cursors (count_trailing_zeros 64 m) 0) ps) → Turned ns ps xs ds e cursors t m (count_trailing_zeros 64 m) ms at
-  writing_next {start} {came} {from} {cursors} {out} {count} {t} {m} {ms} l room w ne h at q =
-      turned ns ps xs ds e cursors t m (count_trailing_zeros 64 m) ms l room w.ready (trailing_lowest 64 m (omega arith) h) at q
+  writing_next {start} {came} {from} {cursors} {out} {count} {t} {m} {ms} l w ne h at q =
+      turned ns ps xs ds e cursors t m (count_trailing_zeros 64 m) ms l w.enough w.ready (trailing_lowest m (omega arith) h) at q
 
   -- a note is written behind those that are there
   pub writing_turn :
-      {start came : List ℕ} {from : ℕ} {cursors out : List ℕ} {count t m : ℕ} {ms : List ℕ} {v at : ℕ} (last : List ℕ) → Writing ns ps xs ds e start came from cursors out count t (m ∷ ms)
-      → Turned ns ps xs ds e cursors t m v ms at → 8 * count ≤ length out
-      → last ≡ sound_bytes (v, sound_at ps xs ds at t) ++ drop 8 (take (length out - 8 * count) (drop (8 * count) out))
+      {start came : List ℕ} {from : ℕ} {cursors out : List ℕ} {count t m : ℕ} {ms : List ℕ} {v at n : ℕ} {note : ℕ × Heard} (last : List ℕ) → Writing ns ps xs ds e start came from cursors out count t (m ∷ ms)
+      → Turned ns ps xs ds e cursors t m v ms at → 8 * count ≤ length out → note ≡ (v, sound_at ps xs ds at t) → n ≡ 8
+      → last ≡ sound_bytes note ++ drop n (take (length out - 8 * count) (drop (8 * count) out))
       → Writing ns ps xs ds e start came from (set cursors v (at + 1)) (put_mid (8 * count) (length out - 8 * count) out last) (count + 1) t (bit_xor m (2 ^ v) ∷ ms)
   unfolding each
-  writing_turn {start} {came} {from} {cursors} {out} {count} {t} {m} {ms} {v} {at} last w n h l =
+  writing_turn {start} {came} {from} {cursors} {out} {count} {t} {m} {ms} {v} {at} {n} {note} last w tu h is many l =
       let y : ℕ × Heard = (v, sound_at ps xs ds at t) in
+      let behind : List ℕ = take (length out - 8 * count) (drop (8 * count) out) in
+      let wrote = l ∙ ap (λ (z : ℕ × Heard). sound_bytes z ++ drop n behind) is ∙ ap (λ (k : ℕ). sound_bytes y ++ drop k behind) many in
       let next : List ℕ = set cursors v (at + 1) in
       let eight : 8 * (count + 1) ≡ 8 * count + 8 = omega arith in
-      let now : put_mid (8 * count) (length out - 8 * count) out last ≡ take (8 * count) out ++ (sound_bytes y ++ drop (8 * count + 8) out) = put_rest out (sound_bytes y) last (8 * count) 8 l in
+      let now : put_mid (8 * count) (length out - 8 * count) out last ≡ take (8 * count) out ++ (sound_bytes y ++ drop (8 * count + 8) out) = put_rest out (sound_bytes y) last (8 * count) 8 wrote in
       let part : List ℕ = take (8 * count) out ++ sound_bytes y in
       let long : length part ≡ 8 * (count + 1) = length-append (take (8 * count) out) (sound_bytes y) ∙ ap (λ (k : ℕ). k + 8) (length-take-le (8 * count) out h) ∙ sym eight in
       let parts : put_mid (8 * count) (length out - 8 * count) out last ≡ part ++ drop (8 * count + 8) out = now ∙ sym (append_assoc (take (8 * count) out) (sound_bytes y) (drop (8 * count + 8) out)) in
       record {
-        ready = n.ready;
+        ready = tu.ready;
+        enough = omega (arith, w.enough, length-set cursors v (at + 1));
         front =
             ap (λ (bs : List ℕ). take (8 * (count + 1)) bs ++ sounds_bytes (all_left ns ps xs ds e next)) parts
             ∙ ap (λ (bs : List ℕ). bs ++ sounds_bytes (all_left ns ps xs ds e next)) (take_at part (drop (8 * count + 8) out) (8 * (count + 1)) long)
             ∙ append_assoc (take (8 * count) out) (sound_bytes y) (sounds_bytes (all_left ns ps xs ds e next))
-            ∙ ap (λ (ys : Row). take (8 * count) out ++ sounds_bytes ys) (sym n.next) ∙ w.front;
+            ∙ ap (λ (ys : Row). take (8 * count) out ++ sounds_bytes ys) (sym tu.next) ∙ w.front;
         back =
             ap (drop (8 * (count + 1))) parts ∙ drop_at part (drop (8 * count + 8) out) (8 * (count + 1)) long ∙ sym (drop-drop 8 (8 * count) out) ∙ ap (drop 8) w.back
             ∙ drop-drop 8 (8 * count) came ∙ ap (λ (k : ℕ). drop k came) (sym eight);
         more = omega (arith, w.more);
-        many = let g = ap length n.next in omega (arith, w.many, g);
+        many = let g = ap length tu.next in omega (arith, w.many, g);
       }
 
   -- there is room for it
@@ -78,6 +79,7 @@ module _ {ns ps xs ds : List ℕ} {e : ℕ} where
       let d : 8 * before + 8 * (count - before) ≡ 8 * count = omega (arith, i.more) in
       record {
         ready = record { begin = b; reached = i.ready.reached };
+        enough = i.enough;
         front = i.front ∙ w.front;
         back =
             i.back ∙ ap (λ (k : ℕ). drop k was) (sym d) ∙ sym (drop-drop (8 * (count - before)) (8 * before) was) ∙ ap (drop (8 * (count - before))) w.back

@@ -1,3 +1,4 @@
 pub mod Spans
 pub mod Scores
 pub mod Single
+pub mod Rows

@@ -1,5 +1,7 @@
 -- What is heard of all voices in a span: rows of notes, and slots that say which voices begin a note there. Assumes nothing: these are definitions.
 use Rattle.std.specs.Prelude.{◌≡◌, ℕ, zero, suc, ◌+◌, ◌-◌, ◌/◌, ◌%◌, ◌^◌, ◌<◌, ◌≤◌, true, List, [], ◌∷◌, map, length, take, drop, sum, ◌==◌, bit_or, nat_lt, slice_index, slice_set}
+use Rattle.std.specs.Int.{bit_at}
+use Rattle.std.specs.List.{prefix_len}
 use Rattle.score.specs.Music.{pick, places, Event, tone, Heard, heard, total}
 use Rattle.score.specs.Calls.{Score, voice, none_too_long, merged}
 use Rattle.laws.specs.Rows.{voice_of}
@@ -51,9 +53,8 @@ abbrev pub ticks_from : ℕ → List ℕ → List ℕ → ℕ → List ℕ
 ticks_from e ps ds r = note_ticks e (sum (take r ds)) (drop r ps) (drop r ds)
 
 -- how many silences come first
-unfoldable pub silences : List ℕ → ℕ
-silences [] = 0
-silences (p ∷ ps) = pick (p == places) (suc (silences ps)) 0
+abbrev pub silences : List ℕ → ℕ
+silences ps = prefix_len (λ p. p == places) ps
 
 -- ---- slots
 
@@ -61,14 +62,10 @@ silences (p ∷ ps) = pick (p == places) (suc (silences ps)) 0
 abbrev pub grain : ℕ
 grain = 3
 
--- of a number, the bit of weight 2 ^ k
-abbrev pub bit : ℕ → ℕ → ℕ
-bit n k = n / 2 ^ k % 2
-
 -- the ticks at which voice u begins a note, where the first slot is that of tick t, and a slot has a bit for each voice that does so
 unfoldable pub begun : ℕ → ℕ → List ℕ → List ℕ
 begun u t [] = []
-begun u t (m ∷ ms) = pick (bit m u == 1) (t ∷ begun u (t + grain) ms) (begun u (t + grain) ms)
+begun u t (m ∷ ms) = pick (bit_at m u == 1) (t ∷ begun u (t + grain) ms) (begun u (t + grain) ms)
 
 -- voice u begins a note at each of these ticks, where the first slot is the one of that number
 unfoldable pub marks : ℕ → ℕ → List ℕ → List ℕ → List ℕ

@@ -1,11 +1,16 @@
--- The words of an event that can be written. Assumes nothing: this is a definition.
-use Rattle.std.specs.Prelude.{◌≡◌, ℕ, ◌<◌, true}
-use Rattle.score.specs.Music.{Event, lasts, fine, length_end}
-use Rattle.laws.specs.Rows.{stands, alters}
+-- The three regions of words that hold a score, and the words of an event in each. Assumes nothing: these are definitions.
+use Rattle.std.specs.Prelude.{ℕ, ◌+◌, List, [], ◌∷◌, slice_index}
+use Rattle.memory.specs.Store.{places_from, alterations_from, lengths_from}
+use Rattle.rows.specs.declared.Row.{Row}
 
-pub record RowOf (e : Event) (p a d : ℕ) : Type 0 where
-  pub can_write : fine e ≡ true
-  pub place : p ≡ stands e
-  pub alteration : a ≡ alters e
-  pub ticks : d ≡ lasts e
-  pub small : d < length_end
+-- where the regions begin
+abbrev pub begins_in : List ℕ → List ℕ
+begins_in w = places_from w ∷ (alterations_from w ∷ (lengths_from w ∷ []))
+
+-- the words at a place of each region
+abbrev pub row_in : List ℕ → ℕ → Row
+row_in w at = record {
+  place = slice_index w (places_from w + at);
+  alteration = slice_index w (alterations_from w + at);
+  length = slice_index w (lengths_from w + at);
+}

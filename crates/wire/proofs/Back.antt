@@ -1,31 +1,14 @@
 -- Symbols, notes and answers come back from their bytes. Assumes nothing.
-use Rattle.std.proofs.Common.{◌≡◌, ℕ, ◌/◌, ◌%◌, true, false, List, [], ◌∷◌, ◌++◌, length, drop, Some, Option, refl, ap, ◌∙◌, append_assoc}
+use Rattle.std.proofs.Common.{◌≡◌, ℕ, List, [], ◌∷◌, ◌++◌, length, drop, Some, Option, refl, ap, ◌∙◌, append_assoc}
 use Rattle.std.proofs.lemmas.List.{drop_at}
 use Rattle.std.specs.Option.{option_map}
-use Rattle.score.specs.Music.{Heard}
-use Rattle.score.specs.Print.{bar, head, rest}
 use Rattle.score.specs.Calls.{Answer, done, refused, symbols, sounds, number}
 use Rattle.wire.specs.Bytes.{symbol_bytes, sound_bytes, symbols_bytes, sounds_bytes, each, answer_bytes}
-use Rattle.wire.specs.Reading.{of_two, symbol_of, sound_of, before, row_of, answer_of}
-use Rattle.wire.specs.Faithful.{SymbolsBack, SoundsBack, AnswersBack}
-use Rattle.wire.proofs.Rows.{length_symbol}
+use Rattle.wire.specs.Reading.{symbol_of, sound_of, before, row_of, answer_of}
+use Rattle.wire.specs.Faithful.{AnswersBack}
+pub use Rattle.wire.specs.Items.{length_symbol, symbols_back, sounds_back}
 use Rattle.wire.proofs.Fitting.{answer_below}
-use Rattle.wire.proofs.Numbers.{of_two_two, of_four_four}
-
-pub symbols_back : SymbolsBack
-symbols_back bar bs = refl
-symbols_back (head p s v true) bs = ap (λ n. Some (head p s n true)) (of_two_two v)
-symbols_back (head p s v false) bs = ap (λ n. Some (head p s n false)) (of_two_two v)
-symbols_back (rest v) bs = ap (λ n. Some (rest n)) (of_two_two v)
-
-sound : ℕ → ℕ → ℕ → ℕ → Option (ℕ × Heard)
-sound v t a d = Some (v, record { start = a; long = d; high = t })
-
-pub sounds_back : SoundsBack
-unfolding sound
-sounds_back x bs =
-    ap (λ n. sound x.0 x.1.high n (of_two (x.1.long % 256) (x.1.long / 256))) (of_four_four x.1.start)
-    ∙ ap (λ n. sound x.0 x.1.high x.1.start n) (of_two_two x.1.long)
+use Rattle.wire.specs.Items.{of_four_four}
 
 -- so many that each come back, whatever stands behind
 row_back :

@@ -5,12 +5,13 @@ use Rattle.score.specs.Music.{Event, note, silence}
 use Rattle.score.specs.Calls.{Call, put, cut, change, show, heard_in, how_long}
 use Rattle.score.specs.Promise.{all_below, field, readable_event, readable}
 use Rattle.wire.specs.Bytes.{four, event_bytes, call_bytes}
-use Rattle.wire.specs.ReadingCalls.{read_call}
+use Rattle.wire.specs.ReadingCalls.{fields_at, read_call}
 use Rattle.wire.specs.Faithful.{with_any, CallsBack}
 use Rattle.wire.proofs.Numbers.{of_two_two, of_four_four}
 use Rattle.wire.proofs.Rows.{all_below_none, all_below_more, all_below-++, four_below, five_below}
 
 pub any_back : (c : Call) (x y : ℕ) → read_call (with_any x y c (call_bytes c)) ≡ Ok c
+unfolding fields_at
 any_back (put v i (note p a d)) x y = cc (of_four_four v, of_four_four i, of_two_two d)
 any_back (put v i (silence d)) x y = cc (of_four_four v, of_four_four i, of_two_two d)
 any_back (change v i (note p a d)) x y = cc (of_four_four v, of_four_four i, of_two_two d)

@@ -1,14 +1,14 @@
 -- A row of bytes that is read as a call is that call's row, but for the two bytes that are not looked at. Assumes nothing.
-use Rattle.std.proofs.Common.{◌≡◌, ℕ, ◌+◌, ◌*◌, ◌/◌, ◌%◌, ◌<◌, true, ◌&&◌, eqb, ltb, List, [], ◌∷◌, ◌++◌, Ok, Result, sym, refl, ap, ◌∙◌, subst, arith}
+use Rattle.std.proofs.Common.{◌≡◌, ℕ, zero, suc, ◌+◌, ◌*◌, ◌/◌, ◌%◌, ◌<◌, true, eqb, ltb, List, [], ◌∷◌, ◌++◌, length, get_or, Ok, Result, sym, refl, ap, ◌∙◌, subst, arith}
 use Rattle.std.proofs.lemmas.Bool.{and_from, lt-ltb, eqb-true}
 use Rattle.std.proofs.lemmas.List.{append-nil}
 use Rattle.score.specs.Music.{pick, length_end, Event, note, silence}
 use Rattle.score.specs.Calls.{Call, put, cut, change, show, heard_in, how_long, Answer}
 use Rattle.score.specs.Promise.{all_below, field, readable_event, readable}
 use Rattle.score.proofs.Picks.{pick_both}
-use Rattle.wire.specs.Bytes.{two, four, call_bytes}
+use Rattle.wire.specs.Bytes.{two, four, each, call_bytes}
 use Rattle.wire.specs.Reading.{of_two, of_four}
-use Rattle.wire.specs.ReadingCalls.{then, four_at, field_at, note_at, silence_at, event_at, end_at, one_field, two_fields, three_fields, fields_and_event}
+use Rattle.wire.specs.ReadingCalls.{then, four_at, field_at, note_at, silence_at, event_at, end_at, fields_at, fields, fields_and_event}
 use Rattle.wire.specs.Faithful.{with_any, OneRow}
 use Rattle.wire.proofs.Rows.{below_first}
 use Rattle.wire.proofs.Results.{never, then_read}
@@ -151,12 +151,30 @@ event_read n (k ∷ bs) x h p =
     (λ _ q. never _ _ q))
     p
 
-one_read : (bs : List ℕ) (v : ℕ) → all_below 256 bs ≡ true → one_field bs ≡ Ok v → (bs ≡ four v) × (field v ≡ true)
-one_read bs v h p =
-    let s = then_read (field_at 1 bs) (λ v. end_at 5 v.1 v.0) v p in
-    let f = field_read 1 bs s.0 h s.1 in
-    let e = end_read 5 s.0.1 s.0.0 v s.2 in
-    (f.row ∙ ap (λ r. four s.0.0 ++ r) e.0 ∙ ap four e.1, subst (λ n. field n ≡ true) e.1 f.fits)
+-- one that fits before others that fit
+fits : (v : ℕ) (vs : List ℕ) (m : ℕ) → field v ≡ true → ((k : ℕ) → k < m → field (get_or vs k 0) ≡ true) → (k : ℕ) → k < suc m → field (get_or (v ∷ vs) k 0) ≡ true
+fits v vs m h g zero l = h
+fits v vs m h g (suc k) l = g k (omega arith)
+
+-- so many numbers, and nothing more
+record FieldsRead (bs vs : List ℕ) (m : ℕ) : Type 0 where
+  row : bs ≡ each four vs
+  long : length vs ≡ m
+  fit : (k : ℕ) → k < m → field (get_or vs k 0) ≡ true
+
+fields_read : (n m : ℕ) (bs vs : List ℕ) → all_below 256 bs ≡ true → fields_at n m bs ≡ Ok vs → FieldsRead bs vs m
+unfolding each fields_at
+fields_read n zero bs vs h p =
+    let e = end_read n bs [] vs p in
+    record { row = e.0 ∙ ap (each four) e.1; long = ap length (sym e.1); fit = λ k l. absurd (omega arith) }
+fields_read n (suc m) bs vs h p =
+    let s = then_read (field_at n bs) (λ v. then (fields_at (n + 4) m v.1) (λ vs. Ok (v.0 ∷ vs))) vs p in
+    let f = field_read n bs s.0 h s.1 in
+    let t = then_read (fields_at (n + 4) m s.0.1) (λ vs. Ok (s.0.0 ∷ vs)) vs s.2 in
+    let g = fields_read (n + 4) m s.0.1 t.0 f.below t.1 in
+    let all : s.0.0 ∷ t.0 ≡ vs = cc t.2 in
+    subst (λ z. FieldsRead bs z (suc m)) all
+    record { row = f.row ∙ ap (λ r. four s.0.0 ++ r) g.row; long = ap suc g.long; fit = fits s.0.0 t.0 m f.fits g.fit }
 
 -- two numbers, and what follows them
 record PlacedRead {A : Type 0} (k : ℕ → ℕ → List ℕ → Result A Answer) (bs : List ℕ) (x : A) : Type 0 where
@@ -187,24 +205,6 @@ placed_read k bs x h p =
       below = g.below;
       then_so = t.2;
     }
-
-two_read : (bs : List ℕ) (x : ℕ × ℕ) → all_below 256 bs ≡ true → two_fields bs ≡ Ok x → (bs ≡ four x.0 ++ four x.1) × (field x.0 ≡ true) × (field x.1 ≡ true)
-two_read bs x h p =
-    let t = placed_read (λ v i r. end_at 9 r (v, i)) bs x h p in
-    let e = end_read 9 t.rest (t.v, t.i) x t.then_so in
-    subst (λ z. (bs ≡ four z.0 ++ four z.1) × (field z.0 ≡ true) × (field z.1 ≡ true)) e.1
-    (t.row ∙ ap (λ r. four t.v ++ (four t.i ++ r)) e.0, t.v_fits, t.i_fits)
-
-three_read :
-    (bs : List ℕ) (x : ℕ × ℕ × ℕ) → all_below 256 bs ≡ true → three_fields bs ≡ Ok x
-    → (bs ≡ four x.0 ++ (four x.1 ++ four x.2)) × (field x.0 ≡ true) × (field x.1 ≡ true) × (field x.2 ≡ true)
-three_read bs x h p =
-    let t = placed_read (λ v b r. then (field_at 9 r) (λ n. end_at 13 n.1 (v, b, n.0))) bs x h p in
-    let s = then_read (field_at 9 t.rest) (λ n. end_at 13 n.1 (t.v, t.i, n.0)) x t.then_so in
-    let f = field_read 9 t.rest s.0 t.below s.1 in
-    let e = end_read 13 s.0.1 (t.v, t.i, s.0.0) x s.2 in
-    subst (λ z. (bs ≡ four z.0 ++ (four z.1 ++ four z.2)) × (field z.0 ≡ true) × (field z.1 ≡ true) × (field z.2 ≡ true)) e.1
-    (t.row ∙ ap (λ r. four t.v ++ (four t.i ++ r)) (f.row ∙ ap (λ r. four s.0.0 ++ r) e.0), t.v_fits, t.i_fits, f.fits)
 
 -- two numbers, what follows them, and nothing more
 nothing_behind :
@@ -249,12 +249,13 @@ unfolding readable
 change_row bs v i (note p a d) t = (and_from _ _ t.v_fits (and_from _ _ t.i_fits t.e_fits), (t.x, t.y, ap (λ r. 2 ∷ r) t.row))
 change_row bs v i (silence d) t = (and_from _ _ t.v_fits (and_from _ _ t.i_fits t.e_fits), (t.x, t.y, ap (λ r. 2 ∷ r) t.row))
 
-two_fit : (bs : List ℕ) (x : ℕ × ℕ) → all_below 256 bs ≡ true → two_fields bs ≡ Ok x → (bs ≡ four x.0 ++ four x.1) × (field x.0 && field x.1 ≡ true)
-two_fit bs x h p = let t = two_read bs x h p in (t.0, and_from _ _ t.1 t.2)
-
-show_row : (bs : List ℕ) (x : ℕ × ℕ × ℕ) → all_below 256 bs ≡ true → three_fields bs ≡ Ok x → ItsRow (3 ∷ bs) (show x.0 x.1 x.2)
-unfolding readable
-show_row bs x h p = let t = three_read bs x h p in (and_from _ _ t.1 (and_from _ _ t.2 t.3), (0, 0, ap (λ r. 3 ∷ r) t.0))
+-- a call that is a number and so many fields
+fields_row :
+    (k m : ℕ) (f : List ℕ → Call) → ((vs : List ℕ) → length vs ≡ m → ((k : ℕ) → k < m → field (get_or vs k 0) ≡ true) → readable (f vs) ≡ true)
+    → ((vs : List ℕ) → length vs ≡ m → k ∷ each four vs ≡ with_any 0 0 (f vs) (call_bytes (f vs)))
+    → (bs vs : List ℕ) → all_below 256 bs ≡ true → fields m bs ≡ Ok vs → ItsRow (k ∷ bs) (f vs)
+fields_row k m f fit row bs vs h p =
+    let t = fields_read 1 m bs vs h p in (fit vs t.long t.fit, (0, 0, ap (λ r. k ∷ r) t.row ∙ row vs t.long))
 
 -- a call of number m, by what follows the number, or another
 or_else :
@@ -269,15 +270,37 @@ or_else k m bs c r f other here there =
     subst (λ n. ItsRow (n ∷ bs) c) (sym (eqb-true k m e)) (subst (ItsRow (m ∷ bs)) same (here t.0 t.1)))
     (λ _. there)
 
+one_field : (vs : List ℕ) → length vs ≡ 1 → vs ≡ get_or vs 0 0 ∷ []
+one_field [] h = cc
+one_field (a ∷ []) h = refl
+one_field (a ∷ (b ∷ vs)) h = cc
+
+two_fields : (vs : List ℕ) → length vs ≡ 2 → vs ≡ get_or vs 0 0 ∷ (get_or vs 1 0 ∷ [])
+two_fields [] h = cc
+two_fields (a ∷ vs) h = ap (λ r. a ∷ r) (one_field vs (omega arith))
+
+three_fields : (vs : List ℕ) → length vs ≡ 3 → vs ≡ get_or vs 0 0 ∷ (get_or vs 1 0 ∷ (get_or vs 2 0 ∷ []))
+three_fields [] h = cc
+three_fields (a ∷ vs) h = ap (λ r. a ∷ r) (two_fields vs (omega arith))
+
 pub one_row : OneRow
-unfolding readable
+unfolding readable each
 one_row [] c h p = never _ _ p
 one_row (k ∷ bs) c h p =
     let b = (below_first k bs h).1 in
     or_else k 0 bs c (fields_and_event bs) (λ x. put x.0 x.1 x.2) _ (λ x e. put_row bs x.0 x.1 x.2 (placed_event_read bs x b e))
-    (or_else k 1 bs c (two_fields bs) (λ x. cut x.0 x.1) _ (λ x e. let t = two_fit bs x b e in (t.1, (0, 0, ap (λ r. 1 ∷ r) t.0)))
+    (or_else k 1 bs c (fields 2 bs) (λ x. cut (get_or x 0 0) (get_or x 1 0)) _
+    (λ x e. fields_row 1 2 (λ x. cut (get_or x 0 0) (get_or x 1 0)) (λ vs _ f. and_from _ _ (f 0 (omega arith)) (f 1 (omega arith)))
+    (λ vs l. ap (λ r. 1 ∷ each four r) (two_fields vs l)) bs x b e)
     (or_else k 2 bs c (fields_and_event bs) (λ x. change x.0 x.1 x.2) _ (λ x e. change_row bs x.0 x.1 x.2 (placed_event_read bs x b e))
-    (or_else k 3 bs c (three_fields bs) (λ x. show x.0 x.1 x.2) _ (λ x e. show_row bs x b e)
-    (or_else k 4 bs c (two_fields bs) (λ x. heard_in x.0 x.1) _ (λ x e. let t = two_fit bs x b e in (t.1, (0, 0, ap (λ r. 4 ∷ r) t.0)))
-    (or_else k 5 bs c (one_field bs) how_long _ (λ x e. let t = one_read bs x b e in (t.1, (0, 0, ap (λ r. 5 ∷ r) t.0))) (λ q. never _ _ q))))))
+    (or_else k 3 bs c (fields 3 bs) (λ x. show (get_or x 0 0) (get_or x 1 0) (get_or x 2 0)) _
+    (λ x e. fields_row 3 3 (λ x. show (get_or x 0 0) (get_or x 1 0) (get_or x 2 0))
+    (λ vs _ f. and_from _ _ (f 0 (omega arith)) (and_from _ _ (f 1 (omega arith)) (f 2 (omega arith))))
+    (λ vs l. ap (λ r. 3 ∷ each four r) (three_fields vs l)) bs x b e)
+    (or_else k 4 bs c (fields 2 bs) (λ x. heard_in (get_or x 0 0) (get_or x 1 0)) _
+    (λ x e. fields_row 4 2 (λ x. heard_in (get_or x 0 0) (get_or x 1 0)) (λ vs _ f. and_from _ _ (f 0 (omega arith)) (f 1 (omega arith)))
+    (λ vs l. ap (λ r. 4 ∷ each four r) (two_fields vs l)) bs x b e)
+    (or_else k 5 bs c (fields 1 bs) (λ x. how_long (get_or x 0 0)) _
+    (λ x e. fields_row 5 1 (λ x. how_long (get_or x 0 0)) (λ vs _ f. f 0 (omega arith)) (λ vs l. ap (λ r. 5 ∷ each four r) (one_field vs l)) bs x b e)
+    (λ q. never _ _ q))))))
     p

@@ -1,30 +1,51 @@
--- What a pattern finds at the front of bytes is what the definitions of reading find there. Assumes nothing.
-use Rattle.std.proofs.Common.{◌≡◌, ℕ, ◌-◌, ◌≤◌, List, [], ◌∷◌, length, get_or, take, drop, Ok, Result, sym, refl, ap, ◌∙◌, arith}
-use Rattle.std.proofs.lemmas.List.{take_rest}
+-- Fields that are read one by one are those that the definition of reading finds. Assumes nothing.
+use Rattle.std.proofs.Common.{◌≡◌, ℕ, suc, ◌+◌, ◌-◌, ◌<◌, ◌≤◌, List, [], ◌∷◌, ◌++◌, Ok, Err, Result, sym, refl, ap, ◌∙◌, append_assoc, arith}
+use Rattle.std.proofs.lemmas.List.{append-nil}
 use Rattle.score.specs.Calls.{Answer}
-use Rattle.wire.specs.ReadingCalls.{then, four_at}
+use Rattle.wire.specs.ReadingCalls.{then, field_at, end_at, fields_at}
+use Rattle.wire.proofs.Results.{never}
 
-four_there :
-    (n : ℕ) (bs : List ℕ) → 4 ≤ length bs → four_at n bs ≡ Ok (get_or bs 0 0, get_or bs 1 0, get_or bs 2 0, get_or bs 3 0, drop 4 bs)
-four_there n [] h = absurd (omega arith)
-four_there n (a ∷ []) h = absurd (omega arith)
-four_there n (a ∷ (b ∷ [])) h = absurd (omega arith)
-four_there n (a ∷ (b ∷ (c ∷ []))) h = absurd (omega arith)
-four_there n (a ∷ (b ∷ (c ∷ (d ∷ bs)))) h = refl
+-- fields that were read, ahead of those that are read of the rest
+abbrev pub ahead : List ℕ → Result (List ℕ) Answer → Result (List ℕ) Answer
+ahead vs r = then r (λ xs. Ok (vs ++ xs))
 
--- four bytes, and what is made of them
-pub made_of_four :
-    {A : Type 0} (f : ℕ × ℕ × ℕ × ℕ × List ℕ → A) (n : ℕ) (bs : List ℕ) (x : A) → 4 ≤ length bs
-    → x ≡ f (get_or bs 0 0, get_or bs 1 0, get_or bs 2 0, get_or bs 3 0, take (length bs - 4) (drop 4 bs))
-    → ◌≡◌ {A = Result A Answer} (Ok x) (then (four_at n bs) (λ q. Ok (f q)))
-made_of_four f n bs x h e =
-    ap Ok (e ∙ ap (λ r. f (get_or bs 0 0, get_or bs 1 0, get_or bs 2 0, get_or bs 3 0, r)) (take_rest bs 4))
-    ∙ sym (ap (λ r. then r (λ q. Ok (f q))) (four_there n bs h))
+ahead_one : (vs : List ℕ) (v : ℕ) (r : Result (List ℕ) Answer) → ahead (vs ++ (v ∷ [])) r ≡ ahead vs (then r (λ xs. Ok (v ∷ xs)))
+ahead_one vs v (Ok xs) = ap Ok (append_assoc vs (v ∷ []) xs)
+ahead_one vs v (Err e) = refl
 
--- a number or a kind, and what is read by it
-pub read_by_first :
-    {A : Type 0} (f : List ℕ → A) (g : ℕ → List ℕ → A) → ((k : ℕ) (bs : List ℕ) → f (k ∷ bs) ≡ g k bs)
-    → (k : ℕ) (bs : List ℕ) (x : A) → 1 ≤ length bs → get_or bs 0 0 ≡ k → x ≡ g k (take (length bs - 1) (drop 1 bs)) → x ≡ f bs
-read_by_first f g by k [] x h e p = absurd (omega arith)
-read_by_first f g by k (b ∷ bs) x h e p =
-    p ∙ ap (λ r. g k r) (take_rest (b ∷ bs) 1) ∙ ap (λ m. g m bs) (sym e) ∙ sym (by b bs)
+-- one more is read, or none, and at last all are
+pub field_more :
+    (n m i : ℕ) (bs rest : List ℕ) (v : ℕ) (vs ws : List ℕ) (whole : Result (List ℕ) Answer) → i < m → Ok (v, rest) ≡ field_at n bs
+    → ws ≡ vs ++ (v ∷ []) → ahead vs (fields_at n (m - i) bs) ≡ whole → ahead ws (fields_at (n + 4) (m - (i + 1)) rest) ≡ whole
+unfolding fields_at
+field_more n m i bs rest v vs ws whole h e s all =
+    let z : m - i ≡ suc (m - (i + 1)) = omega arith in
+    ap (λ ws. ahead ws (fields_at (n + 4) (m - (i + 1)) rest)) s
+    ∙ ahead_one vs v (fields_at (n + 4) (m - (i + 1)) rest)
+    ∙ ap (λ r. ahead vs (then r (λ x. then (fields_at (n + 4) (m - (i + 1)) x.1) (λ xs. Ok (x.0 ∷ xs))))) e
+    ∙ ap (λ k. ahead vs (fields_at n k bs)) (sym z)
+    ∙ all
+
+pub field_none :
+    (n m i : ℕ) (bs vs : List ℕ) (e : Answer) (whole : Result (List ℕ) Answer) → i < m → Err e ≡ field_at n bs → ahead vs (fields_at n (m - i) bs) ≡ whole
+    → Err e ≡ whole
+unfolding fields_at
+field_none n m i bs vs e whole h p all =
+    let z : m - i ≡ suc (m - (i + 1)) = omega arith in
+    ap (λ r. ahead vs (then r (λ x. then (fields_at (n + 4) (m - (i + 1)) x.1) (λ xs. Ok (x.0 ∷ xs))))) p
+    ∙ ap (λ k. ahead vs (fields_at n k bs)) (sym z)
+    ∙ all
+
+pub field_all :
+    (n m i : ℕ) (bs vs : List ℕ) (whole : Result (List ℕ) Answer) → m ≤ i → ◌≡◌ {A = Result (Unit {0}) Answer} (Ok tt) (end_at n bs tt) → ahead vs (fields_at n (m - i) bs) ≡ whole → Ok vs ≡ whole
+unfolding fields_at
+field_all n m i [] vs whole h p all =
+    let z : m - i ≡ 0 = omega arith in ap Ok (sym (append-nil vs)) ∙ ap (λ k. ahead vs (fields_at n k [])) (sym z) ∙ all
+field_all n m i (b ∷ bs) vs whole h p all = never _ _ (sym p)
+
+pub field_over :
+    (n m i : ℕ) (bs vs : List ℕ) (e : Answer) (whole : Result (List ℕ) Answer) → m ≤ i → ◌≡◌ {A = Result (Unit {0}) Answer} (Err e) (end_at n bs tt) → ahead vs (fields_at n (m - i) bs) ≡ whole → Err e ≡ whole
+unfolding fields_at
+field_over n m i [] vs e whole h p all = never _ _ p
+field_over n m i (b ∷ bs) vs e whole h p all =
+    let z : m - i ≡ 0 = omega arith in let q : Err e ≡ ahead vs (end_at n (b ∷ bs) []) = cc in q ∙ ap (λ k. ahead vs (fields_at n k (b ∷ bs))) (sym z) ∙ all

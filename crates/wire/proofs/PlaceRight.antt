@@ -1,6 +1,6 @@
 -- A refusal's place is where a row of bytes ceases to be the beginning of a call. Each way of reading is shown to fail rightly if what it goes on
 -- with does. Assumes nothing.
-use Rattle.std.proofs.Common.{◌≡◌, ℕ, zero, suc, ◌+◌, ◌<◌, true, false, eqb, ◌⊎◌, List, [], ◌∷◌, ◌++◌, length, take, replicate, Ok, Err, Result, sym, refl, ap, ◌∙◌, subst, inl, inr, zero-add, arith}
+use Rattle.std.proofs.Common.{◌≡◌, ℕ, zero, suc, ◌+◌, ◌<◌, true, false, eqb, ◌⊎◌, List, [], ◌∷◌, ◌++◌, length, get_or, take, replicate, Ok, Err, Result, sym, refl, ap, ◌∙◌, subst, inl, inr, zero-add, arith}
 use Rattle.std.proofs.lemmas.List.{take_all}
 use Rattle.std.proofs.lemmas.Bool.{eqb-true, cases_Bool}
 use Rattle.score.specs.Music.{Event, note, silence}
@@ -8,7 +8,7 @@ use Rattle.score.specs.Calls.{put, cut, change, show, heard_in, how_long, Answer
 use Rattle.score.specs.Promise.{all_below}
 use Rattle.score.proofs.Picks.{pick_false}
 use Rattle.wire.specs.Reading.{of_two, of_four}
-use Rattle.wire.specs.ReadingCalls.{unfit, then, four_at, event_by, event_at, end_at, one_field, two_fields, three_fields, fields_and_event, call_by, read_call}
+use Rattle.wire.specs.ReadingCalls.{unfit, then, four_at, event_by, event_at, end_at, fields_at, fields, fields_and_event, call_by, read_call}
 use Rattle.wire.specs.Faithful.{PlaceRight}
 use Rattle.wire.proofs.Rows.{all_below_none, all_below_more}
 use Rattle.wire.proofs.Results.{never, then_read, then_refused}
@@ -161,14 +161,10 @@ module _ {A : Type 0} (k : Event → List ℕ → Result A Answer) (n : ℕ) (af
   event_fails = first_fails n _ (eventh k n) refl (λ _ _. refl) 0 (omega arith) note_fails each_kind
 
 -- what follows a call's number
-one_fails : FailsRightly 1 one_field
-one_fails = four_fails of_four (λ v bs. end_at 5 bs v) 1 (λ v. end_fails 5 v)
-
-two_fails : FailsRightly 1 two_fields
-two_fails = four_fails of_four _ 1 (λ v. four_fails of_four _ 5 (λ i. end_fails 9 (v, i)))
-
-three_fails : FailsRightly 1 three_fields
-three_fails = four_fails of_four _ 1 (λ v. four_fails of_four _ 5 (λ b. four_fails of_four _ 9 (λ n. end_fails 13 (v, b, n))))
+fields_fail : (n m : ℕ) → FailsRightly n (fields_at n m)
+unfolding fields_at
+fields_fail n zero = end_fails n []
+fields_fail n (suc m) = four_fails of_four _ n (λ v. other_fails (n + 4) (fields_at (n + 4) m) (λ vs. v ∷ vs) (fields_fail (n + 4) m))
 
 placed_fails : FailsRightly 1 fields_and_event
 placed_fails = four_fails of_four _ 1 (λ v. four_fails of_four _ 5 (λ i. event_fails _ 9 (λ e. end_fails 14 (v, i, e))))
@@ -179,11 +175,11 @@ put_fails = other_fails 1 fields_and_event (λ x. put x.0 x.1 x.2) placed_fails
 each_number : (b : ℕ) → Known 0 call_by b
 each_number b =
     this_or_else call_by b 0 put_fails (λ c.
-    this_or_else call_by b 1 (other_fails 1 two_fields (λ x. cut x.0 x.1) two_fails) (λ d.
+    this_or_else call_by b 1 (other_fails 1 (fields 2) (λ x. cut (get_or x 0 0) (get_or x 1 0)) (fields_fail 1 2)) (λ d.
     this_or_else call_by b 2 (other_fails 1 fields_and_event (λ x. change x.0 x.1 x.2) placed_fails) (λ e.
-    this_or_else call_by b 3 (other_fails 1 three_fields (λ x. show x.0 x.1 x.2) three_fails) (λ f.
-    this_or_else call_by b 4 (other_fails 1 two_fields (λ x. heard_in x.0 x.1) two_fails) (λ g.
-    this_or_else call_by b 5 (other_fails 1 one_field how_long one_fails) (λ h.
+    this_or_else call_by b 3 (other_fails 1 (fields 3) (λ x. show (get_or x 0 0) (get_or x 1 0) (get_or x 2 0)) (fields_fail 1 3)) (λ f.
+    this_or_else call_by b 4 (other_fails 1 (fields 2) (λ x. heard_in (get_or x 0 0) (get_or x 1 0)) (fields_fail 1 2)) (λ g.
+    this_or_else call_by b 5 (other_fails 1 (fields 1) (λ x. how_long (get_or x 0 0)) (fields_fail 1 1)) (λ h.
     inr (λ bs. pick_false _ _ _ c ∙ pick_false _ _ _ d ∙ pick_false _ _ _ e ∙ pick_false _ _ _ f ∙ pick_false _ _ _ g ∙ pick_false _ _ _ h)))))))
 
 call_fails : FailsRightly 0 read_call

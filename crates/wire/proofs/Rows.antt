@@ -2,9 +2,10 @@
 use Rattle.std.proofs.Common.{◌≡◌, ℕ, ◌*◌, ◌<◌, true, ltb, List, [], ◌∷◌, ◌++◌, length, sym, refl, ap, ◌∙◌, append_assoc, arith, length-append}
 use Rattle.std.proofs.lemmas.Bool.{and_parts, and_from, lt-ltb, ltb-true}
 use Rattle.score.specs.Music.{Heard, length_end}
-use Rattle.score.specs.Print.{Symbol, bar, head, rest}
+use Rattle.score.specs.Print.{Symbol}
 use Rattle.score.specs.Promise.{all_below, field_end, field}
 use Rattle.wire.specs.Bytes.{two, four, symbol_bytes, sound_bytes, symbols_bytes, sounds_bytes, each}
+pub use Rattle.wire.specs.Items.{length_symbol}
 
 pub each-++ : {A : Type 0} (f : A → List ℕ) (xs ys : List A) → each f (xs ++ ys) ≡ each f xs ++ each f ys
 unfolding each
@@ -15,11 +16,6 @@ pub length_each : {A : Type 0} (f : A → List ℕ) (w : ℕ) → ((x : A) → l
 unfolding each
 length_each f w wide [] = omega arith
 length_each f w wide (x ∷ xs) = let more = length_each f w wide xs in simp length-append (omega (arith, wide x))
-
-pub length_symbol : (x : Symbol) → length (symbol_bytes x) ≡ 5
-length_symbol bar = refl
-length_symbol (head p s v tied) = refl
-length_symbol (rest v) = refl
 
 pub length_symbols : (xs : List Symbol) → length (symbols_bytes xs) ≡ 5 * length xs
 length_symbols xs = length_each symbol_bytes 5 length_symbol xs

@@ -4,6 +4,8 @@ use Rattle.std.specs.Prelude.{ℕ, ◌/◌, ◌%◌, List, [], ◌∷◌, ◌++�
 use Rattle.score.specs.Music.{pick, Event, note, silence, Heard}
 use Rattle.score.specs.Print.{Symbol, bar, head, rest}
 use Rattle.score.specs.Calls.{Call, put, cut, change, show, heard_in, how_long, Answer, done, refused, symbols, sounds, number}
+use Rattle.score.specs.declared.Answer.{Answer as Said}
+use Rattle.score.specs.declared.Answer.TheVariants.{Done, Refused, Symbols, Sounds, Number}
 
 abbrev pub two : ℕ → List ℕ
 two n = n % 256 ∷ (n / 256 ∷ [])
@@ -52,6 +54,14 @@ symbols_head n = 2 ∷ four n
 
 abbrev pub sounds_head : ℕ → List ℕ
 sounds_head n = 3 ∷ four n
+
+-- what is said first in an answer
+abbrev pub said_bytes : Said → List ℕ
+said_bytes Done = 0 ∷ []
+said_bytes (Refused n p) = 1 ∷ (n ∷ four p)
+said_bytes (Symbols n) = symbols_head n
+said_bytes (Sounds n) = sounds_head n
+said_bytes (Number n) = 4 ∷ four n
 
 -- an answer: its kind, and a refusal's number and place, a count and so many symbols or sounds, or a number
 abbrev pub answer_bytes : Answer → List ℕ

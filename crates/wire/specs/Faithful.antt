@@ -1,8 +1,7 @@
 -- That bytes lose nothing: what is written is read back as it was, and a refusal's place is where a row ceases to be a call. Each statement is proved
 -- where a function names it. Assumes nothing.
-use Rattle.std.specs.Prelude.{◌≡◌, ℕ, suc, true, ◌⊎◌, List, ◌++◌, length, take, Some, Ok, Err, slice_set}
-use Rattle.score.specs.Music.{note, silence, Heard}
-use Rattle.score.specs.Print.{Symbol}
+use Rattle.std.specs.Prelude.{◌≡◌, ℕ, suc, true, ◌⊎◌, List, ◌++◌, length, take, Some, Ok, Err, Option, slice_set}
+use Rattle.score.specs.Music.{note, silence}
 use Rattle.score.specs.Calls.{Call, put, cut, change, show, heard_in, how_long, Answer, refused}
 use Rattle.score.specs.Promise.{all_below, readable}
 use Rattle.wire.specs.Bytes.{call_bytes, symbol_bytes, sound_bytes, answer_bytes}
@@ -44,12 +43,15 @@ PlaceRight =
     (bs : List ℕ) (a : Answer) → read_call bs ≡ Err a →
     (n : ℕ) × (a ≡ refused 1 n) × BeginsACall (take n bs) × ((n ≡ length bs) ⊎ (BeginsACall (take (suc n) bs) → ⊥))
 
--- A symbol is read back, and a note as it is heard, whatever stands behind.
+-- What is written is read back, whatever stands behind: a symbol, and a note as it is heard.
+abbrev pub Back : {A : Type 0} → (A → List ℕ) → (List ℕ → Option A) → Type 0
+Back {A} f g = (x : A) (bs : List ℕ) → g (f x ++ bs) ≡ Some x
+
 abbrev pub SymbolsBack : Type 0
-SymbolsBack = (x : Symbol) (bs : List ℕ) → symbol_of (symbol_bytes x ++ bs) ≡ Some x
+SymbolsBack = Back symbol_bytes symbol_of
 
 abbrev pub SoundsBack : Type 0
-SoundsBack = (x : ℕ × Heard) (bs : List ℕ) → sound_of (sound_bytes x ++ bs) ≡ Some x
+SoundsBack = Back sound_bytes sound_of
 
 -- And every answer, whose bytes are bytes if its numbers fit their fields: nothing is cut, so nothing too large can hide.
 abbrev pub AnswersBack : Type 0

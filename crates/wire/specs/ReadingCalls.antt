@@ -1,6 +1,6 @@
 -- Which call a row of bytes is, or where it ceases to be one. Assumes nothing: these are definitions.
 -- Each part is read from what is left of a row, which goes on at a given place, and hands on what is behind it.
-use Rattle.std.specs.Prelude.{ℕ, ◌+◌, List, [], ◌∷◌, Ok, Err, Result, ◌==◌}
+use Rattle.std.specs.Prelude.{ℕ, zero, suc, ◌+◌, List, [], ◌∷◌, Ok, Err, Result, ◌==◌, slice_index}
 use Rattle.score.specs.Music.{pick, Event, note, silence}
 use Rattle.score.specs.Calls.{Call, put, cut, change, show, heard_in, how_long, Answer, refused}
 use Rattle.score.specs.Meaning.{refusal_meant}
@@ -47,16 +47,14 @@ abbrev pub end_at : {A : Type 0} → ℕ → List ℕ → A → Result A Answer
 end_at n [] x = Ok x
 end_at n (b ∷ bs) x = unfit n
 
--- what follows a call's number: one field, two, three, or two and an event
-abbrev pub one_field : List ℕ → Result ℕ Answer
-one_field bs = then (field_at 1 bs) (λ v. end_at 5 v.1 v.0)
+-- so many fields from a place on, and nothing more
+unfoldable pub fields_at : ℕ → ℕ → List ℕ → Result (List ℕ) Answer
+fields_at n zero bs = end_at n bs []
+fields_at n (suc m) bs = then (field_at n bs) (λ v. then (fields_at (n + 4) m v.1) (λ vs. Ok (v.0 ∷ vs)))
 
-abbrev pub two_fields : List ℕ → Result (ℕ × ℕ) Answer
-two_fields bs = then (field_at 1 bs) (λ v. then (field_at 5 v.1) (λ i. end_at 9 i.1 (v.0, i.0)))
-
-abbrev pub three_fields : List ℕ → Result (ℕ × ℕ × ℕ) Answer
-three_fields bs =
-    then (field_at 1 bs) (λ v. then (field_at 5 v.1) (λ b. then (field_at 9 b.1) (λ n. end_at 13 n.1 (v.0, b.0, n.0))))
+-- what follows a call's number: so many fields, or two and an event
+abbrev pub fields : ℕ → List ℕ → Result (List ℕ) Answer
+fields m bs = fields_at 1 m bs
 
 abbrev pub fields_and_event : List ℕ → Result (ℕ × ℕ × Event) Answer
 fields_and_event bs =
@@ -66,11 +64,11 @@ fields_and_event bs =
 abbrev pub call_by : ℕ → List ℕ → Result Call Answer
 call_by k bs =
     pick (k == 0) (then (fields_and_event bs) (λ x. Ok (put x.0 x.1 x.2)))
-    (pick (k == 1) (then (two_fields bs) (λ x. Ok (cut x.0 x.1)))
+    (pick (k == 1) (then (fields 2 bs) (λ x. Ok (cut (slice_index x 0) (slice_index x 1))))
     (pick (k == 2) (then (fields_and_event bs) (λ x. Ok (change x.0 x.1 x.2)))
-    (pick (k == 3) (then (three_fields bs) (λ x. Ok (show x.0 x.1 x.2)))
-    (pick (k == 4) (then (two_fields bs) (λ x. Ok (heard_in x.0 x.1)))
-    (pick (k == 5) (then (one_field bs) (λ x. Ok (how_long x)))
+    (pick (k == 3) (then (fields 3 bs) (λ x. Ok (show (slice_index x 0) (slice_index x 1) (slice_index x 2))))
+    (pick (k == 4) (then (fields 2 bs) (λ x. Ok (heard_in (slice_index x 0) (slice_index x 1))))
+    (pick (k == 5) (then (fields 1 bs) (λ x. Ok (how_long (slice_index x 0))))
     (unfit 0))))))
 
 abbrev pub read_call : List ℕ → Result Call Answer

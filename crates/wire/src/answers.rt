@@ -1,52 +1,32 @@
 //! Answers: what is written, and what is read of it.
 ghost use Rattle.std.specs.Prelude.{◌≡◌, ◌≤◌, ◌++◌, length, drop};
-ghost use Rattle.std.specs.Option.{option_map};
 ghost use Rattle.score.specs.Calls as Calls;
 ghost use Rattle.score.specs.Calls.{done};
-ghost use Rattle.score.specs.Meaning.{symbol_meant, sound_meant, refusal_meant};
-ghost use Rattle.wire.specs.Bytes.{symbol_bytes, sound_bytes, symbols_head, sounds_head, answer_bytes};
-ghost use Rattle.wire.specs.Reading.{symbol_of, sound_of, number_of, refusal_of, said_of};
+ghost use Rattle.score.specs.Meaning.{refusal_meant};
+ghost use Rattle.wire.specs.Bytes.{symbols_head, sounds_head, said_bytes, answer_bytes};
+ghost use Rattle.wire.specs.Reading.{number_of, refusal_of, said_of};
 
-use super::write_head;
-use score::{Answer, Refusal, Sound, Symbol};
+use super::write_fields;
+use score::{Answer, Refusal};
 
-/// Writes a symbol over the first five bytes, and returns how many that is.
-pub fn write_symbol(out: &mut [u8], symbol: Symbol) -> usize
-    requires { 5 ≤ length out.old }
-    ensures wrote { out.new ≡ symbol_bytes (symbol_meant symbol) ++ drop result out.old }
-    ensures many { result ≡ 5 }
+/// Writes what is said first in an answer, and returns how many bytes that is; symbols or sounds may stand behind already.
+#[tactic(auto, unfolding(crate::specs::Bytes::each))]
+pub fn write_answer(out: &mut [u8], answer: Answer) -> usize
+    requires { length (said_bytes answer) ≤ length out.old }
+    ensures wrote { out.new ≡ said_bytes answer ++ drop result out.old }
+    ensures many { result ≡ length (said_bytes answer) }
 {
-    let row = match symbol {
-        Symbol::BarLine => [0, 0, 0, 0, 0],
-        Symbol::Head {
-            place,
-            sign,
-            value,
-            tied,
-        } => {
-            let [low, high] = value.to_le_bytes();
-            let kind = if tied { 2 } else { 1 };
-            [kind, place, sign, low, high]
+    match answer {
+        Answer::Done => write_fields(out, 0, &[]),
+        Answer::Refused { number, place } => {
+            let [a, b, c, d] = place.to_le_bytes();
+            out[0..6].copy_from_slice(&[1, number, a, b, c, d]);
+            6
         }
-        Symbol::Rest { value } => {
-            let [low, high] = value.to_le_bytes();
-            [3, 0, 0, low, high]
-        }
-    };
-    out[0..5].copy_from_slice(&row);
-    5
-}
-
-/// Writes a note as it is heard over the first eight bytes.
-pub fn write_sound(out: &mut [u8], sound: Sound) -> usize
-    requires { 8 ≤ length out.old }
-    ensures wrote { out.new ≡ sound_bytes (sound_meant sound) ++ drop result out.old }
-    ensures many { result ≡ 8 }
-{
-    let [a, b, c, d] = sound.start.to_le_bytes();
-    let [low, high] = sound.length.to_le_bytes();
-    out[0..8].copy_from_slice(&[sound.voice, sound.tone, a, b, c, d, low, high]);
-    8
+        Answer::Symbols { count } => write_fields(out, 2, &[count]),
+        Answer::Sounds { count } => write_fields(out, 3, &[count]),
+        Answer::Number { number } => write_fields(out, 4, &[number]),
+    }
 }
 
 /// Writes the answer that a call was done.
@@ -55,8 +35,7 @@ pub fn write_done(out: &mut [u8]) -> usize
     ensures wrote { out.new ≡ answer_bytes done ++ drop result out.old }
     ensures many { result ≡ 1 }
 {
-    out[0] = 0;
-    1
+    write_answer(out, Answer::Done)
 }
 
 /// Writes the answer that a call, or an opening, was turned away.
@@ -65,9 +44,13 @@ pub fn write_refused(out: &mut [u8], refusal: Refusal) -> usize
     ensures wrote { out.new ≡ answer_bytes (refusal_meant refusal) ++ drop result out.old }
     ensures many { result ≡ 6 }
 {
-    let [a, b, c, d] = refusal.place().to_le_bytes();
-    out[0..6].copy_from_slice(&[1, refusal.number(), a, b, c, d]);
-    6
+    write_answer(
+        out,
+        Answer::Refused {
+            number: refusal.number(),
+            place: refusal.place(),
+        },
+    )
 }
 
 /// Writes the answer that is a number.
@@ -76,7 +59,7 @@ pub fn write_number(out: &mut [u8], number: u32) -> usize
     ensures wrote { out.new ≡ answer_bytes (Calls.number number) ++ drop result out.old }
     ensures many { result ≡ 5 }
 {
-    write_head(out, 4, number)
+    write_answer(out, Answer::Number { number })
 }
 
 /// Writes what stands before a row of so many symbols, which may be there already, behind the first five bytes.
@@ -85,7 +68,7 @@ pub fn write_symbols_head(out: &mut [u8], count: u32) -> usize
     ensures wrote { out.new ≡ symbols_head count ++ drop result out.old }
     ensures many { result ≡ 5 }
 {
-    write_head(out, 2, count)
+    write_answer(out, Answer::Symbols { count })
 }
 
 /// Writes what stands before a row of so many sounds, which may be there already, behind the first five bytes.
@@ -94,43 +77,7 @@ pub fn write_sounds_head(out: &mut [u8], count: u32) -> usize
     ensures wrote { out.new ≡ sounds_head count ++ drop result out.old }
     ensures many { result ≡ 5 }
 {
-    write_head(out, 3, count)
-}
-
-/// The symbol that stands at the front of bytes: none if they are too few or its kind is unknown.
-pub fn read_symbol(bytes: &[u8]) -> Option<Symbol>
-    ensures { option_map symbol_meant result ≡ symbol_of bytes.now }
-{
-    let [kind, place, sign, low, high, ..] = bytes else {
-        return None;
-    };
-    let value = u16::from_le_bytes([*low, *high]);
-    match *kind {
-        0 => Some(Symbol::BarLine),
-        1 | 2 => Some(Symbol::Head {
-            place: *place,
-            sign: *sign,
-            value,
-            tied: *kind == 2,
-        }),
-        3 => Some(Symbol::Rest { value }),
-        _ => None,
-    }
-}
-
-/// The note, as it is heard, that stands at the front of bytes: none if they are too few.
-pub fn read_sound(bytes: &[u8]) -> Option<Sound>
-    ensures { option_map sound_meant result ≡ sound_of bytes.now }
-{
-    let [voice, tone, a, b, c, d, low, high, ..] = bytes else {
-        return None;
-    };
-    Some(Sound {
-        voice: *voice,
-        start: u32::from_le_bytes([*a, *b, *c, *d]),
-        length: u16::from_le_bytes([*low, *high]),
-        tone: *tone,
-    })
+    write_answer(out, Answer::Sounds { count })
 }
 
 /// What is said first in the answer that stands at the front of bytes: none if they are too few or its kind is unknown.
@@ -140,6 +87,7 @@ pub fn read_answer(bytes: &[u8]) -> Option<Answer>
     let [kind, rest @ ..] = bytes else {
         return None;
     };
+    // An enum of kinds of answer would need this match, from a byte, and another to what is read by it.
     match *kind {
         0 => Some(Answer::Done),
         1 => read_refusal(rest),

@@ -1,28 +1,32 @@
 //! Calls and answers as bytes: which call a row of bytes is or where it ceases to be one, and how answers are written and read back.
 #![tactic(auto)]
 
-ghost use Rattle.std.specs.Prelude.{◌≡◌, ◌≤◌, ◌∷◌, ◌++◌, length, drop};
-ghost use Rattle.wire.specs.Bytes.{four};
+ghost use Rattle.std.specs.Prelude.{◌≡◌, ◌+◌, ◌*◌, ◌≤◌, ◌∷◌, ◌++◌, length, drop};
+ghost use Rattle.wire.specs.Bytes.{four, each};
 ghost use Rattle.wire.specs.Faithful.{CallsBack, OneRow, PlaceRight, SymbolsBack, SoundsBack, AnswersBack};
 
 mod answers;
 mod calls;
+mod items;
 
 pub use answers::{
-    read_answer, read_sound, read_symbol, write_done, write_number, write_refused, write_sound,
-    write_sounds_head, write_symbol, write_symbols_head,
+    read_answer, write_answer, write_done, write_number, write_refused, write_sounds_head,
+    write_symbols_head,
 };
 pub use calls::{read_call, write_call};
+pub use items::{Item, read_sound, read_symbol, write_sound, write_symbol};
 
-/// Writes the number of a call, or the kind of an answer, and a number in four bytes.
-fn write_head(out: &mut [u8], kind: u8, number: u32) -> usize
-    requires { 5 ≤ length out.old }
-    ensures wrote { out.new ≡ (kind ∷ four number) ++ drop result out.old }
-    ensures many { result ≡ 5 }
+/// Writes the number of a call, or the kind of an answer, and numbers in four bytes each.
+fn write_fields(out: &mut [u8], kind: u8, fields: &[u32]) -> usize
+    requires { 4 * length fields.now + 1 ≤ length out.old }
+    ensures wrote { out.new ≡ (kind ∷ each four fields.now) ++ drop result out.old }
+    ensures many { result ≡ 4 * length fields.now + 1 }
 {
-    let [a, b, c, d] = number.to_le_bytes();
-    out[0..5].copy_from_slice(&[kind, a, b, c, d]);
-    5
+    out[0] = kind;
+    for (i, field) in fields.iter().enumerate() {
+        out[4 * i + 1..4 * i + 5].copy_from_slice(&field.to_le_bytes());
+    }
+    4 * fields.len() + 1
 }
 
 /// What was written of a call is read back as that call.

@@ -1,19 +1,19 @@
 //! Tests of calls and answers as bytes, in a crate of their own, since a crate with tests is proved twice.
 #![tactic(auto)]
 
-ghost use Rattle.std.specs.Prelude.{◌<◌};
+ghost use Rattle.std.specs.Prelude.{◌<◌, ◌≤◌, length};
 
 #[cfg(test)]
 mod tests {
     use score::{Call, Event, Refusal, Sound, Symbol};
-    use wire::{read_call, read_sound, read_symbol, write_call, write_sound, write_symbol};
+    use std::process::Abort;
+    use wire::{Item, read_call, read_symbol, write_call};
 
-    // A call, and its bytes, with zeros behind them.
+    // A call, and its bytes.
     #[derive(Clone, Copy)]
     struct Row {
         call: Call,
-        bytes: [u8; 15],
-        length: usize,
+        bytes: &'static [u8],
     }
 
     fn rows() -> [Row; 8] {
@@ -30,8 +30,7 @@ mod tests {
                     index: 258,
                     event: note,
                 },
-                bytes: [0, 1, 0, 0, 0, 2, 1, 0, 0, 0, 31, 3, 96, 0, 0],
-                length: 14,
+                bytes: &[0, 1, 0, 0, 0, 2, 1, 0, 0, 0, 31, 3, 96, 0],
             },
             Row {
                 call: Call::Put {
@@ -39,16 +38,14 @@ mod tests {
                     index: 65536,
                     event: silence,
                 },
-                bytes: [0, 0, 0, 0, 0, 0, 0, 1, 0, 1, 0, 0, 44, 1, 0],
-                length: 14,
+                bytes: &[0, 0, 0, 0, 0, 0, 0, 1, 0, 1, 0, 0, 44, 1],
             },
             Row {
                 call: Call::Cut {
                     voice: 63,
                     index: 16777216,
                 },
-                bytes: [1, 63, 0, 0, 0, 0, 0, 0, 1, 0, 0, 0, 0, 0, 0],
-                length: 9,
+                bytes: &[1, 63, 0, 0, 0, 0, 0, 0, 1],
             },
             Row {
                 call: Call::Change {
@@ -56,8 +53,7 @@ mod tests {
                     index: 7,
                     event: note,
                 },
-                bytes: [2, 2, 0, 0, 0, 7, 0, 0, 0, 0, 31, 3, 96, 0, 0],
-                length: 14,
+                bytes: &[2, 2, 0, 0, 0, 7, 0, 0, 0, 0, 31, 3, 96, 0],
             },
             Row {
                 call: Call::Change {
@@ -65,8 +61,7 @@ mod tests {
                     index: 7,
                     event: silence,
                 },
-                bytes: [2, 2, 0, 0, 0, 7, 0, 0, 0, 1, 0, 0, 44, 1, 0],
-                length: 14,
+                bytes: &[2, 2, 0, 0, 0, 7, 0, 0, 0, 1, 0, 0, 44, 1],
             },
             Row {
                 call: Call::Show {
@@ -74,23 +69,29 @@ mod tests {
                     bar: 1000,
                     count: 16,
                 },
-                bytes: [3, 5, 0, 0, 0, 232, 3, 0, 0, 16, 0, 0, 0, 0, 0],
-                length: 13,
+                bytes: &[3, 5, 0, 0, 0, 232, 3, 0, 0, 16, 0, 0, 0],
             },
             Row {
                 call: Call::HeardIn {
                     from: 4294967295,
                     to: 1536,
                 },
-                bytes: [4, 255, 255, 255, 255, 0, 6, 0, 0, 0, 0, 0, 0, 0, 0],
-                length: 9,
+                bytes: &[4, 255, 255, 255, 255, 0, 6, 0, 0],
             },
             Row {
                 call: Call::HowLong { voice: 3 },
-                bytes: [5, 3, 0, 0, 0, 0, 0, 0, 0, 0, 0, 0, 0, 0, 0],
-                length: 5,
+                bytes: &[5, 3, 0, 0, 0],
             },
         ]
+    }
+
+    // A row with zeros behind it.
+    fn padded(bytes: &[u8]) -> [u8; 15]
+        requires { length bytes.now ≤ 15 }
+    {
+        let mut row = [0; 15];
+        row[..bytes.len()].copy_from_slice(bytes);
+        row
     }
 
     // A row with another byte in one place.
@@ -104,16 +105,14 @@ mod tests {
     // Each call is written and read as its row; cut short at any length it ends too early there, and a byte too many is refused where it stands.
     #[test]
     fn calls_and_parts_of_them(rt: HostRuntime) {
-        for Row {
-            call,
-            bytes,
-            length,
-        } in rows() {
+        for Row { call, bytes } in rows() {
+            let length = bytes.len();
             assert!(rt; length < 15);
+            let row = padded(bytes);
             let mut out = [0; 15];
             assert_eq!(rt; write_call(&mut out, call), length);
-            assert_eq!(rt; out, bytes);
-            assert_eq!(rt; read_call(&bytes[0..length]), Ok(call));
+            assert_eq!(rt; out, row);
+            assert_eq!(rt; read_call(bytes), Ok(call));
             for end in 0..length {
                 assert_eq!(rt;
                     read_call(&bytes[0..end]),
@@ -121,7 +120,7 @@ mod tests {
                 );
             }
             assert_eq!(rt;
-                read_call(&bytes[0..length + 1]),
+                read_call(&row[0..length + 1]),
                 Err(Refusal::Unreadable(length as u32))
             );
         }
@@ -130,30 +129,41 @@ mod tests {
     // A number that no call has is refused at the first byte, a kind that no event has at its own; and of a silence two bytes may be anything.
     #[test]
     fn numbers_and_kinds_out_of_range(rt: HostRuntime) {
-        for Row {
-            call,
-            bytes,
-            length,
-        } in rows() {
+        for Row { call, bytes } in rows() {
+            assert!(rt; bytes.len() < 15);
+            let row = padded(bytes);
             for other in 6..=255 {
                 assert_eq!(rt;
-                    read_call(&changed(bytes, 0, other)),
+                    read_call(&changed(row, 0, other)),
                     Err(Refusal::Unreadable(0))
                 );
             }
-            if length < 14 {
+            if bytes.len() < 14 {
                 continue;
             }
             for other in 2..=255 {
                 assert_eq!(rt;
-                    read_call(&changed(bytes, 9, other)),
+                    read_call(&changed(row, 9, other)),
                     Err(Refusal::Unreadable(9))
                 );
             }
-            if bytes[9] == 1 {
-                let row = changed(changed(bytes, 10, 70), 11, 255);
-                assert_eq!(rt; read_call(&row[0..14]), Ok(call));
+            if row[9] == 1 {
+                let other = changed(changed(row, 10, 70), 11, 255);
+                assert_eq!(rt; read_call(&other[0..14]), Ok(call));
             }
+        }
+    }
+
+    // An item is written and read as its row, and is none where the row is cut short.
+    fn written_and_read<T: Item + PartialEq>(rt: &impl Abort, item: T, row: &[u8]) {
+        assert!(rt; T::SIZE == row.len() && row.len() <= 8);
+        let mut out = [9; 8];
+        let part = &mut out[..row.len()];
+        assert_eq!(rt; item.write(part), row.len());
+        assert_eq!(rt; &out[..row.len()], row);
+        assert!(rt; T::read(row) == Some(item));
+        for end in 0..row.len() {
+            assert!(rt; T::read(&row[0..end]).is_none());
         }
     }
 
@@ -172,21 +182,10 @@ mod tests {
             value: 192,
             tied: false,
         };
-        let table = [
-            (Symbol::BarLine, [0, 0, 0, 0, 0]),
-            (plain, [1, 28, 0, 192, 0]),
-            (tied, [2, 31, 4, 144, 0]),
-            (Symbol::Rest { value: 65535 }, [3, 0, 0, 255, 255]),
-        ];
-        for (symbol, row) in table {
-            let mut out = [9; 5];
-            assert_eq!(rt; write_symbol(&mut out, symbol), 5);
-            assert_eq!(rt; out, row);
-            assert_eq!(rt; read_symbol(&row), Some(symbol));
-            for end in 0..5 {
-                assert_eq!(rt; read_symbol(&row[0..end]), None);
-            }
-        }
+        written_and_read(&rt, Symbol::BarLine, &[0, 0, 0, 0, 0]);
+        written_and_read(&rt, plain, &[1, 28, 0, 192, 0]);
+        written_and_read(&rt, tied, &[2, 31, 4, 144, 0]);
+        written_and_read(&rt, Symbol::Rest { value: 65535 }, &[3, 0, 0, 255, 255]);
         for kind in 4..=255 {
             assert_eq!(rt; read_symbol(&[kind, 28, 0, 192, 0]), None);
         }
@@ -196,13 +195,6 @@ mod tests {
             length: 300,
             tone: 112,
         };
-        let row = [63, 112, 255, 255, 255, 0, 44, 1];
-        let mut out = [9; 8];
-        assert_eq!(rt; write_sound(&mut out, sound), 8);
-        assert_eq!(rt; out, row);
-        assert_eq!(rt; read_sound(&row), Some(sound));
-        for end in 0..8 {
-            assert_eq!(rt; read_sound(&row[0..end]), None);
-        }
+        written_and_read(&rt, sound, &[63, 112, 255, 255, 255, 0, 44, 1]);
     }
 }

@@ -1,7 +1,8 @@
-use Rattle.std.proofs.Common.{◌≡◌, ℕ, ◌<◌, get_or}
+use Rattle.std.proofs.Common.{◌≡◌, ℕ, ◌<◌, length, get_or}
+use Rattle.score.specs.Music.{places}
 use Rattle.score.specs.Print.{key}
 use Rattle.keys.proofs.begin_bar.Given as goal
 
 -- the key holds at each place that was reached
 abbrev pub invariant-loop-place : goal.invariant-loop-place
-invariant-loop-place l = (q : ℕ) → q < l.place → get_or l.holds q 0 ≡ key l.signature q
+invariant-loop-place l = (length l.holds ≡ places) × ((q : ℕ) → q < l.place → get_or l.holds q 0 ≡ key l.signature q)

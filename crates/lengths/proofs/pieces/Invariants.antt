@@ -1,9 +1,8 @@
--- What holds before each value is written, and the law by which it goes on. Assumes nothing.
-use Rattle.lengths.proofs.Drawing.{Writing, Writes}
+-- What holds before each value is written. Assumes nothing.
+use Rattle.lengths.proofs.Drawing.{Writing}
 use Rattle.lengths.proofs.pieces.Given as goal
 
-abbrev pub invariant-loop-left : goal.invariant-loop-left
-invariant-loop-left l = Writing l.n l.at l.left l.initial.out l.out × Writes l.n l.initial.out
-
-abbrev pub decreases-loop-left : goal.decreases-loop-left
-decreases-loop-left l = l.left
+abbrev pub invariant-loop-at : goal.invariant-loop-at
+invariant-loop-at l =
+    (goal.iterator-loop-at).can_next l.at-iterator × (goal.iterator-loop-at).is_finite l.at-iterator
+    × Writing l.n l.at-iterator.count l.at-iterator.iter.0 l.initial.out l.out

@@ -1,4 +1,5 @@
-use Rattle.std.proofs.Common.{◌≡◌, ◌+◌, ◌-◌, ◌*◌, ◌≤◌, length, drop}
+use Rattle.std.proofs.Common.{◌≡◌, ◌+◌, ◌*◌, ◌≤◌, length}
+use Rattle.score.specs.Music.{places}
 use Rattle.score.specs.Print.{read_from}
 use Rattle.reading.specs.Keeps.{long_of}
 use Rattle.reading.specs.Symbols.{symbols_of}
@@ -7,11 +8,8 @@ use Rattle.reading.proofs.Steps.{to_hear}
 use Rattle.reading.proofs.Hearing.{Noted}
 use Rattle.reading.proofs.play_row.Given as goal
 
--- What was written down and what is to be heard of the bytes behind `at` is all; the symbols up to there were found; and time is not late.
+-- What was written down and what is to be heard of the bytes that are left is all; and time is not late.
 abbrev pub invariant-symbols : goal.invariant-symbols
 invariant-symbols l =
-    Noted (read_from l.signature (symbols_of l.bytes)) l.initial.heard l.heard l.notes (to_hear l.signature (symbols_of (drop l.at l.bytes)) (state_of l.player.0 l.player.1.0 l.holds))
-    × (l.at + 5 * length (symbols_of (drop l.at l.bytes)) ≡ 5 * length (symbols_of l.bytes)) × (l.at ≤ length l.bytes) × (l.player.0 ≤ 65536 * l.at) × (long_of l.player.1.0 ≤ l.player.0)
-
-abbrev pub decreases-symbols : goal.decreases-symbols
-decreases-symbols l = length l.bytes - l.at
+    Noted (read_from l.signature (symbols_of l.bytes)) l.initial.heard l.heard l.notes (to_hear l.signature (symbols_of l.symbol-iterator.0.now) (state_of l.player.0 l.player.1.0 l.holds))
+    × (l.player.0 + 65536 * length (symbols_of l.symbol-iterator.0.now) ≤ 65536 * length (symbols_of l.bytes)) × (length l.holds ≡ places) × (long_of l.player.1.0 ≤ l.player.0)

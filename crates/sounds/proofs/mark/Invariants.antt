@@ -1,10 +1,16 @@
 -- What is still to be marked in the slots as they are comes to the same as all of it in the slots as they came.
-use Rattle.std.proofs.Common.{◌≡◌, ◌+◌, ◌*◌, ◌<◌, ◌≤◌, length, take, drop, sum}
+use Rattle.std.proofs.Common.{◌≡◌, List, ℕ, ◌+◌, ◌*◌, ◌<◌, ◌≤◌, length, sum}
+use Rattle.std.specs.Slice.Iter.{iter_rest}
+use Rattle.std.specs.Iterator.Adapters.{zip_first, zip_second}
 use Rattle.sounds.specs.Spans.{grain, note_ticks, marks}
 use Rattle.sounds.proofs.mark.Given as goal
 
-abbrev pub invariant-loop-index : goal.invariant-loop-index
-invariant-loop-index l =
-    (l.tick ≡ l.start + sum (take l.index l.lengths)) × (0 < length l.lengths → grain * l.first ≤ l.tick)
-    × (marks l.voice l.first (note_ticks (grain * (l.first + length l.initial.slots)) l.tick (drop l.index l.places) (drop l.index l.lengths)) l.slots
-    ≡ marks l.voice l.first (note_ticks (grain * (l.first + length l.initial.slots)) l.start l.places l.lengths) l.initial.slots)
+abbrev pub invariant-loop-place : goal.invariant-loop-place
+invariant-loop-place l =
+    let ps : List ℕ = iter_rest (zip_first l.place-iterator) in
+    let ds : List ℕ = iter_rest (zip_second l.place-iterator) in
+    let end : ℕ = grain * (l.first + length l.initial.slots) in record {
+      short : l.tick + sum ds ≡ l.start + sum l.lengths;
+      begun : 0 < length ds → grain * l.first ≤ l.tick;
+      marked : marks l.voice l.first (note_ticks end l.tick ps ds) l.slots ≡ marks l.voice l.first (note_ticks end l.start l.places l.lengths) l.initial.slots;
+    }

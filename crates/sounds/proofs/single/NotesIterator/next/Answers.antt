@@ -1,46 +1,40 @@
--- The note that comes is the next one behind the silences.
-use Rattle.std.proofs.Common.{refl, arith}
-use Rattle.sounds.proofs.Line.{yet_short, over, stepped}
+-- Each turn passes over a silence, or gives the note that comes next.
+use Rattle.std.proofs.Common.{sym, ap, ◌∙◌, length, arith}
+use Rattle.sounds.proofs.Line.{playable, over_silence, fields, gives, none_left, silences_passed}
 use Rattle.sounds.proofs.single.NotesIterator.next.Goals as goal
 
-pub pass_silences-index-requires : goal.pass_silences-index-requires
-pass_silences-index-requires c = (c.requires.lengths_too, omega (arith, yet_short c.args.self.now c.requires))
+pub overflow_add-self : goal.overflow_add-self
+overflow_add-self c =
+    let p = playable c.loop-row.self c.in-Some.row c.next.new.self c.loop-row.invariant.playable c.in-Some.ensures.steps in
+    omega (arith, p.short)
 
-pub returns-then-index-self : goal.returns-then-index-self
-returns-then-index-self c = record {
-  steps = record {
-    same_voice = refl;
-    gives = over c.args.self.now c.requires _ _ c.pass_silences-index.ensures.index c.pass_silences-index.ensures.tick c.if-index-self.true;
-  };
-  goes = record { on = λ _. tt; keeps = tt; rests = λ _. tt };
-}
+pub sound_of-requires : goal.sound_of-requires
+sound_of-requires c =
+    let f = fields c.loop-row.self c.in-Some.row c.next.new.self c.loop-row.invariant.playable c.in-Some.ensures.steps (sym c.if-not-is_silent.ensures) in
+    record { place = f.0; alteration = f.1; long = f.2 }
 
-pub overflow_add-self-2 : goal.overflow_add-self-2
-overflow_add-self-2 c =
-    let s = stepped c.args.self.now c.requires _ _ c.pass_silences-index.ensures.index c.pass_silences-index.ensures.tick c.if-index-self.false in
-    omega (arith, s.playable.short)
+pub loop-row-preserved : goal.loop-row-preserved
+loop-row-preserved c =
+    let over = over_silence c.loop-row.self c.in-Some.row c.next.new.self c.loop-row.invariant.playable c.in-Some.ensures.steps (sym c.if-not-is_silent.ensures) in
+    let one = ap length c.in-Some.ensures.steps in record {
+      playable = playable c.loop-row.self c.in-Some.row c.next.new.self c.loop-row.invariant.playable c.in-Some.ensures.steps;
+      same_heard = over ∙ c.loop-row.invariant.same_heard;
+      same_voice = c.loop-row.invariant.same_voice;
+      fewer = omega (arith, one);
+    }
 
-pub overflow_cast-result : goal.overflow_cast-result
-overflow_cast-result c =
-    let s = stepped c.args.self.now c.requires _ _ c.pass_silences-index.ensures.index c.pass_silences-index.ensures.tick c.if-index-self.false in
-    omega (arith, s.length_fits)
-
-pub overflow_cast-result-2 : goal.overflow_cast-result-2
-overflow_cast-result-2 c =
-    let s = stepped c.args.self.now c.requires _ _ c.pass_silences-index.ensures.index c.pass_silences-index.ensures.tick c.if-index-self.false in
-    omega (arith, c.tone.ensures.small s.place s.alteration)
-
-pub returns : goal.returns
-returns c =
-    let s = stepped c.args.self.now c.requires _ _ c.pass_silences-index.ensures.index c.pass_silences-index.ensures.tick c.if-index-self.false in
-    record {
-      steps = record {
-        same_voice = refl;
-        gives = (refl, s.heard_first c.tone.result c.tone.ensures.is);
-      };
+pub returns-then-not-is_silent : goal.returns-then-not-is_silent
+returns-then-not-is_silent c =
+    let given = gives c.loop-row.self c.in-Some.row c.next.new.self c.loop-row.invariant.playable c.in-Some.ensures.steps c.sound_of.result (sym c.if-not-is_silent.ensures) c.sound_of.ensures in
+    let left = playable c.loop-row.self c.in-Some.row c.next.new.self c.loop-row.invariant.playable c.in-Some.ensures.steps in
+    let one = ap length c.in-Some.ensures.steps in record {
+      steps = silences_passed c.args.self.now _ _ c.loop-row.invariant.same_voice c.loop-row.invariant.same_heard given;
       goes = record {
-        on = λ _. (s.playable, tt, omega (arith, c.if-index-self.false, c.pass_silences-index.ensures.index));
-        keeps = s.playable;
+        on = λ _. (left, tt, omega (arith, one));
+        keeps = left;
         rests = λ _. tt;
       };
     }
+
+pub returns-clause-steps : goal.returns-clause-steps
+returns-clause-steps c = record { same_voice = c.loop-row.invariant.same_voice; gives = sym c.loop-row.invariant.same_heard ∙ none_left c.loop-row.self c.in_default.ensures.steps.0 }

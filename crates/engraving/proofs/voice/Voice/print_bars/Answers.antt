@@ -1,0 +1,196 @@
+-- Each turn of a loop writes one symbol or passes to the next event; what is owed changes as `Turns` says.
+use Rattle.std.proofs.Common.{◌≡◌, ℕ, suc, ◌+◌, ◌-◌, ◌<◌, ◌≤◌, true, eqb, ltb, List, ◌∷◌, ◌++◌, length, slice_index, take, drop, Option, sym, refl, ap, ap₂, ◌∙◌, arith}
+use Rattle.std.proofs.lemmas.Bool.{eqb-false}
+use Rattle.score.specs.Music.{pick, places, Event, all_fine}
+use Rattle.score.specs.Print.{Symbol, bar, pieces, lesser}
+use Rattle.score.proofs.Picks.{pick_both}
+use Rattle.laws.proofs.Laid.{lesser_both}
+use Rattle.keys.specs.Held.{sign_needed}
+use Rattle.engraving.specs.Shown.{asked_for}
+use Rattle.laws.proofs.Rows.{Words}
+use Rattle.wire.specs.Bytes.{symbol_bytes}
+use Rattle.keys.specs.Held.{sign_number}
+use Rattle.keys.proofs.Holding.{length_holding}
+use Rattle.rows.specs.Rows.{event_in, voice_in}
+use Rattle.engraving.proofs.Page.{starts, owing, enter, leave, room, write, all}
+use Rattle.engraving.proofs.Turns.{in_event, in_voice, times_three, starts_voice, Value, value_turn, values_turn, line_turn, next_bar, begins_bar, no_bar, First, first, pass_turn, reach_turn, begin_turn, end_turn, no_event, event_next, event_none}
+use Rattle.engraving.proofs.voice.Voice.print_bars.Goals as goal
+use Rattle.engraving.proofs.voice.Voice.print_bars.Goals.{then-gone-eq0, else-gone-eq0}
+use Rattle.engraving.proofs.voice.Voice.print_bars.Goals.{In-Some, Joined-gone-eq0, In-Some-value, In-None-value, Then-begun-layout}
+
+-- a sign is that of an alteration
+sign_small : (hs : List ℕ) (p a : ℕ) → {d : ℕ} → Words p a d → sign_needed hs p a ≤ 5
+sign_small hs p a w =
+    pick_both (λ (x : ℕ). x ≤ 5) (eqb p places) 0 (pick (eqb (slice_index hs p) a) 0 (suc a)) (λ _. omega arith)
+    (λ e. pick_both (λ (x : ℕ). x ≤ 5) (eqb (slice_index hs p) a) 0 (suc a) (λ _. omega arith) (λ _. omega (arith, w.alters (omega (arith, w.place, eqb-false p places e)))))
+
+pub events-init : goal.events-init
+events-init c =
+    let i = ap voice_in c.into_iter-row-iterator.ensures.into_iter_gives in
+    let f = ap all_fine i ∙ c.args.self.ready.fine in (
+      starts _ _ _ (starts_voice c.args.self.layout.key c.args.self.layout.bar c.args.from c.args.count c.args.holds.now _ (omega (arith, c.args.self.ready.some)) c.args.self.ready.thirds f c.requires.key ∙ ap (λ (es : List Event). asked_for c.args.self.layout.key c.args.self.layout.bar es c.args.from c.args.count) i),
+      omega (arith, c.args.self.ready.some),
+      refl,
+      omega arith,
+      times_three c.args.from c.args.self.layout.bar c.args.self.ready.thirds,
+      f,
+      omega arith,
+    )
+
+-- the event of this turn, which can be written
+event : (c : In-Some) → voice_in c.events.row-iterator ≡ event_in c.in-Some.row ∷ voice_in c.next.new.self
+event c = event_next c.events.row-iterator c.next.new.self c.in-Some.row c.in-Some.ensures.steps
+
+fine : (c : In-Some) → all_fine (event_in c.in-Some.row ∷ voice_in c.next.new.self) ≡ true
+fine c = sym (ap all_fine (event c)) ∙ c.events.invariant.5
+
+words : (c : In-Some) → Words c.in-Some.row.place c.in-Some.row.alteration c.in-Some.row.length
+words c = (first _ _ (fine c)).words
+
+-- what is owed before it
+owes : (c : In-Some) → in_voice c.args.self.layout.key c.args.self.layout.bar c.events.skip c.events.begun c.events.holds (voice_in c.events.row-iterator) c.events.more
+    ≡ in_voice c.args.self.layout.key c.args.self.layout.bar c.events.skip c.events.begun c.events.holds (event_in c.in-Some.row ∷ voice_in c.next.new.self) c.events.more
+owes c = ap (λ (es : List Event). in_voice c.args.self.layout.key c.args.self.layout.bar c.events.skip c.events.begun c.events.holds es c.events.more) (event c)
+
+pub events-preserved-then-left-eq0 : goal.events-preserved-then-left-eq0
+events-preserved-then-left-eq0 c =
+    let d = (goal.at.events-preserved-then-left-eq0 c).In-Some in
+    let w = words d in (
+      owing _ c.events.invariant.0 (owes d ∙ pass_turn _ _ _ _ _ _ _ _ _ c.min-gone.ensures c.if-left-eq0.true),
+      omega arith,
+      omega arith,
+      omega arith,
+      omega (arith, w.three, c.min-gone.ensures),
+      (first _ _ (fine d)).others,
+      omega arith,
+    )
+
+pub sign_of-sign-requires : goal.sign_of-sign-requires
+sign_of-sign-requires c = (words (goal.at.sign_of-sign-requires c).In-Some).place
+
+pub bars-init : goal.bars-init
+bars-init c =
+    let d = (goal.at.bars-init c).In-Some in
+    let x = words d in
+    let f = fine d in
+    elim c.if-gone-eq0.branch [
+      | then-gone-eq0 w ↦
+          let s = w.sign_of-sign.ensures in (
+            enter (owing _ c.events.invariant.0 (owes d ∙ begin_turn _ _ _ _ _ _ _ _ _ _ _ f c.min-gone.ensures w.if-gone-eq0.true (omega arith) (omega arith)
+                (ap sign_number w.sign-is ∙ s.sign) (w.holds-is ∙ s.holds))),
+            omega arith,
+            omega arith,
+            omega (arith, w.if-gone-eq0.true, x.three),
+            omega (arith, ap sign_number w.sign-is ∙ s.sign, sign_small c.events.holds c.in-Some.row.place c.in-Some.row.alteration x),
+            omega arith,
+            omega arith,
+            omega arith,
+          )
+      | else-gone-eq0 w ↦ (
+        enter (owing _ c.events.invariant.0 (owes d ∙ reach_turn _ _ _ _ _ _ _ _ _ c.min-gone.ensures c.if-left-eq0.false w.if-gone-eq0.false ∙ ap₂ (λ (hs : List ℕ) (s : Option ℕ). in_event c.args.self.layout.key c.args.self.layout.bar c.events.begun hs c.in-Some.row.place (sign_number s) (c.in-Some.row.length - c.min-gone.result) (voice_in c.next.new.self) c.events.more) (sym w.holds-is) (sym w.sign-is))),
+        omega arith,
+        omega arith,
+        omega (arith, x.three, c.min-gone.ensures, c.if-left-eq0.false),
+        omega (arith, ap sign_number w.sign-is),
+        omega arith,
+        omega arith,
+        omega arith,
+      )
+    ]
+
+pub symbol_of-requires-clause-place : goal.symbol_of-requires-clause-place
+symbol_of-requires-clause-place c = (words (goal.at.symbol_of-requires-clause-place c).In-Some).place
+
+-- a value and a bar line as they come next
+value : (c : In-Some-value) →
+    Value c.args.self.layout.key c.args.self.layout.bar c.values.begun c.bars.holds c.in-Some.row.place (sign_number c.values.sign) c.values.left c.in-Some-value.value (pieces c.next-in-values.new.self.0 c.next-in-values.new.self.0) (voice_in c.next.new.self) c.bars.more
+value c =
+    value_turn c.args.self.layout.key c.args.self.layout.bar c.values.begun c.bars.holds c.in-Some.row.place (sign_number c.values.sign) c.values.left c.in-Some-value.value _ _ _ c.bars.more
+    (omega arith) c.args.self.ready.thirds (omega arith) (omega arith) (omega arith) c.values.invariant.6 c.in-Some-value.ensures.steps
+
+line : (c : Then-begun-layout) →
+    in_event c.args.self.layout.key c.args.self.layout.bar c.values.begun c.bars.holds c.in-Some.row.place (sign_number c.values.sign) c.values.left (voice_in c.next.new.self) c.bars.more
+    ≡ bar ∷ next_bar c.args.self.layout.key c.args.self.layout.bar c.in-Some.row.place (sign_number c.values.sign) c.values.left (voice_in c.next.new.self) (c.bars.more - 1)
+line c =
+    line_turn c.args.self.layout.key c.args.self.layout.bar c.values.begun c.bars.holds c.in-Some.row.place (sign_number c.values.sign) c.values.left _ c.bars.more
+    (omega (arith, c.args.self.ready.some)) c.if-begun-layout.true (omega arith)
+
+pub overflow_sub-left-in-values : goal.overflow_sub-left-in-values
+overflow_sub-left-in-values c = (value (goal.at.overflow_sub-left-in-values c).In-Some-value).within
+
+pub overflow_add-begun : goal.overflow_add-begun
+overflow_add-begun c = let v = value (goal.at.overflow_add-begun c).In-Some-value in omega (arith, v.fits)
+
+pub symbol_of-requires-clause-value : goal.symbol_of-requires-clause-value
+symbol_of-requires-clause-value c = (value (goal.at.symbol_of-requires-clause-value c).In-Some-value).small
+
+pub write_symbol-at-requires : goal.write_symbol-at-requires
+write_symbol-at-requires c = room _ _ c.values.invariant.0 (value (goal.at.write_symbol-at-requires c).In-Some-value).owes (omega arith)
+
+pub values-preserved : goal.values-preserved
+values-preserved c =
+    let v = value (goal.at.values-preserved c).In-Some-value in (
+      write _ _ c.write_symbol-at.new.out c.write_symbol-at.result c.values.invariant.0 v.owes (omega arith) c.write_symbol-at.ensures.many
+          (c.write_symbol-at.ensures.wrote ∙ ap (λ (x : Symbol). symbol_bytes x ++ drop c.write_symbol-at.result (take (length c.values.out - c.values.at) (drop c.values.at c.values.out))) c.symbol_of.ensures),
+      v.fits,
+      omega (arith, v.three),
+      omega (arith, v.three, v.within),
+      omega arith,
+      omega arith,
+      v.then,
+      omega (arith, v.within),
+    )
+
+pub write_symbol-at-requires-then-begun-layout : goal.write_symbol-at-requires-then-begun-layout
+write_symbol-at-requires-then-begun-layout c = room _ _ c.values.invariant.0 (line (goal.at.write_symbol-at-requires-then-begun-layout c).Then-begun-layout) (omega arith)
+
+pub bars-preserved-then-begun-layout : goal.bars-preserved-then-begun-layout
+bars-preserved-then-begun-layout c =
+    let e = line (goal.at.bars-preserved-then-begun-layout c).Then-begun-layout in
+    let w = write _ _ c.write_symbol-at-then-begun-layout.new.out c.write_symbol-at-then-begun-layout.result c.values.invariant.0 e (omega arith) c.write_symbol-at-then-begun-layout.ensures.many c.write_symbol-at-then-begun-layout.ensures.wrote in (
+      leave c.bars.at (owing _ w (begins_bar _ _ _ _ _ _ _ _ c.begin_bar.ensures)) c.bars.invariant.0.back (omega arith),
+      omega (arith, c.args.self.ready.some),
+      refl,
+      omega arith,
+      omega arith,
+      omega arith,
+      omega arith,
+      omega arith,
+    )
+
+-- behind the values of a bar, the bar is full or the event has ended
+over : (c : In-None-value) → lesser c.values.left (c.args.self.layout.bar - c.values.begun) ≡ 0
+over c = values_turn _ _ _ _ c.args.self.ready.thirds (omega arith) (omega arith) (omega arith) c.values.invariant.6 c.in-None-value.ensures.steps.0
+
+pub bars-smaller : goal.bars-smaller
+bars-smaller c =
+    let o = over (goal.at.bars-smaller c).In-None-value in
+    let b = lesser_both c.values.left (c.args.self.layout.bar - c.values.begun) in
+    omega arith
+
+pub bars-preserved : goal.bars-preserved
+bars-preserved c = (leave c.bars.at c.values.invariant.0 c.bars.invariant.0.back (omega arith), omega arith, omega arith, omega arith, omega arith, omega arith, omega arith, omega arith)
+
+pub events-preserved : goal.events-preserved
+events-preserved c =
+    let o = (first _ _ (fine (goal.at.events-preserved c).In-Some)).others in (
+      leave c.events.at (owing _ c.bars.invariant.0 (end_turn _ _ _ _ _ _ _ _ _ _ o (omega arith) (omega arith) (omega (arith, c.min-gone.ensures, c.if-left-eq0.false)))) c.events.invariant.0.back (omega arith),
+      omega arith,
+      omega arith,
+      omega arith,
+      omega (arith, c.min-gone.ensures, c.if-left-eq0.false),
+      o,
+      omega arith,
+    )
+
+pub returns-in-None : goal.returns-in-None
+returns-in-None c =
+    let a = all c.events.invariant.0 (no_event _ _ _ _ _ _ _ (event_none c.events.row-iterator c.in-None.ensures.steps.0)) in
+    record { wrote = a.0; many = a.1 }
+
+pub returns-then-more-eq0 : goal.returns-then-more-eq0
+returns-then-more-eq0 c =
+    let e = line (goal.at.returns-then-more-eq0 c).Then-begun-layout in
+    let w = write _ _ c.write_symbol-at-then-begun-layout.new.out c.write_symbol-at-then-begun-layout.result c.values.invariant.0 e (omega arith) c.write_symbol-at-then-begun-layout.ensures.many c.write_symbol-at-then-begun-layout.ensures.wrote in
+    let a = all (leave {was = c.args.out.now} c.events.at (leave {was = c.events.out} c.bars.at w c.bars.invariant.0.back (omega arith)) c.events.invariant.0.back (omega arith)) (no_bar _ _ _ _ _ _ _ c.if-more-eq0.true) in
+    record { wrote = a.0; many = a.1 }

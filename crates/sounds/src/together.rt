@@ -1,0 +1,124 @@
+//! All voices of a score together.
+ghost use Rattle.std.specs.Prelude.{◌≡◌, ◌+◌, ◌*◌, ◌^◌, ◌<◌, ◌≤◌, ◌++◌, length, drop, replicate};
+ghost use Rattle.score.specs.Calls.{all_events, widest_span, together};
+ghost use Rattle.wire.specs.Bytes.{sounds_bytes};
+ghost use Rattle.memory.specs.Store.{score_of};
+ghost use Rattle.sounds.specs.Spans.{grain, silences, Laid};
+
+use super::{GRAIN, mark_voice, silences_first, sound_of};
+use rows::{Row, Rows};
+use score::{MOST_VOICES, WIDEST_SPAN};
+use voices::Stored;
+use wire::write_sound;
+
+/// The widest span has so many slots, one for each tick at which a note may begin.
+const MOST_SLOTS: usize = WIDEST_SPAN as usize / GRAIN;
+
+/// There are as many cursors as there may be voices.
+const CURSORS: usize = MOST_VOICES as usize;
+
+/// The voices of a score as they lie in lent words: how many events each has, and the events of all, one voice after the other.
+#[derive(Clone, Copy)]
+pub struct Voices<'a> {
+    counts: &'a [u32],
+    rows: Rows<'a>,
+    ghost laid: { Laid counts.now rows.places.now rows.alterations.now rows.lengths.now },
+}
+
+impl<'a> From<Stored<'a>> for Voices<'a> {
+    ghost use Rattle.sounds.specs.Scores.{score_in};
+
+    ghost from_gives = { λ s v. score_in v ≡ score_of s.words.now };
+
+    fn from(score: Stored<'a>) -> Voices<'a> {
+        Voices {
+            counts: score.counts(),
+            rows: score.regions(),
+        }
+    }
+}
+
+impl Voices<'_> {
+    ghost use Rattle.sounds.specs.Scores.{score_in, row_at, Ready, all_left};
+
+    /// Sets the bits of all voices in empty slots, where they begin notes. Returns each voice's first event from the first slot on.
+    #[tactic(auto, using(crate::proofs::Walks::ticks_more))]
+    fn mark(self, first: usize, slots: &mut [u64]) -> [usize; CURSORS]
+        requires empty { slots.old ≡ replicate (length slots.old) 0 }
+        requires small { grain * (first + length slots.old) < 2 ^ 32 }
+        ensures ready { Ready self.entry (grain * (first + length slots.old)) result (grain * first) slots.new }
+        ensures whole { all_left self.entry (grain * (first + length slots.old)) result ≡ together (score_in self.entry) 0 (grain * first) (grain * (first + length slots.old)) }
+    {
+        let mut cursors = [0; CURSORS];
+        let mut begin = 0;
+        for (voice, count) in self.counts.iter().enumerate() {
+            let end = begin + *count as usize;
+            let passed = mark_voice(
+                &self.rows.places[begin..end],
+                &self.rows.lengths[begin..end],
+                voice as u32,
+                first,
+                slots,
+            );
+            // by its index: what is written through a zip with `iter_mut()` is not known in the loop's invariant (tried)
+            cursors[voice] = begin + passed;
+            begin = end;
+        }
+        cursors
+    }
+
+    /// The next note from an event on, over silences: where it stands, and its words.
+    fn next_note(self, from: usize) -> (usize, Row)
+        requires { from + silences (drop from self.rows.places.now) < length self.rows.places.now }
+        ensures at { result.0 ≡ from + silences (drop from self.entry.rows.places.now) }
+        ensures row { result.1 ≡ row_at self.entry result.0 }
+    {
+        let at = from + silences_first(&self.rows.places[from..]);
+        let row = Row {
+            place: self.rows.places[at],
+            alteration: self.rows.alterations[at],
+            length: self.rows.lengths[at],
+        };
+        (at, row)
+    }
+
+    /// Writes what is left of all voices as the slots tell it: slot by slot, and in each the voices in order. Returns how many notes that is.
+    fn write(self, first: usize, slots: &[u64], cursors: [usize; CURSORS], out: &mut [u8]) -> usize
+        requires ready { Ready self (grain * (first + length slots.now)) cursors (grain * first) slots.now }
+        requires small { grain * (first + length slots.now) < 2 ^ 32 }
+        requires room { 8 * length (all_left self (grain * (first + length slots.now)) cursors) ≤ length out.old }
+        ensures wrote { out.new ≡ sounds_bytes (all_left self.entry (grain * (first + length slots.now)) cursors) ++ drop (8 * result) out.old }
+        ensures many { result ≡ length (all_left self.entry (grain * (first + length slots.now)) cursors) }
+    {
+        let mut cursors = cursors;
+        let mut count = 0;
+        for (index, slot) in slots.iter().enumerate() {
+            let start = (GRAIN * (first + index)) as u32;
+            let mut voices = *slot;
+            while voices != 0 {
+                let voice = voices.trailing_zeros();
+                voices ^= 1 << voice;
+                let (at, row) = self.next_note(cursors[voice as usize]);
+                cursors[voice as usize] = at + 1;
+                write_sound(&mut out[8 * count..], sound_of(row, voice as u8, start));
+                count += 1;
+            }
+        }
+        count
+    }
+
+    /// Writes the notes that begin from a tick up to before another, by time, and by voice where times are the same. Returns how many they are.
+    pub fn write_span(self, from: u32, to: u32, out: &mut [u8]) -> usize
+        requires span { to ≤ from + widest_span }
+        requires room { 8 * all_events (score_in self) ≤ length out.old }
+        ensures wrote { out.new ≡ sounds_bytes (together (score_in self.entry) 0 from to) ++ drop (8 * result) out.old }
+        ensures many { result ≡ length (together (score_in self.entry) 0 from to) }
+    {
+        let first = (from as usize).div_ceil(GRAIN);
+        let used = (to as usize).div_ceil(GRAIN).saturating_sub(first);
+        let mut empty = [0; MOST_SLOTS];
+        let slots = &mut empty[..used];
+        let cursors = self.mark(first, slots);
+        self.write(first, slots, cursors, out)
+    }
+}

@@ -1,0 +1,41 @@
+-- Each check that fails turns the put away, and when all hold the words lie as the score then has them.
+use Rattle.std.proofs.Common.{refl, sym, ◌∙◌, subst, arith}
+use Rattle.score.specs.Meaning.{event_meant}
+use Rattle.memory.specs.Words.{Holds}
+use Rattle.voices.proofs.Found.{short_row, no_gap, no_room, too_long_to_put, gap_in_all, put_is}
+use Rattle.voices.proofs.editing.StoredMut.put.Goals as goal
+
+pub returns-in_default : goal.returns-in_default
+returns-in_default c =
+    let a = no_gap c.read-score.result.words.now c.read-score.result.holds c.args.voice c.args.index (event_meant c.args.event) _ _ c.in_ok-row.ensures c.in_default.ensures in
+    rw (← c.read-score.ensures) record { same = refl; said = a.said; left = a.left }
+
+pub returns-in_default-find_room : goal.returns-in_default-find_room
+returns-in_default-find_room c =
+    let a = no_room c.read-score.result.words.now c.read-score.result.holds c.args.voice c.args.index (event_meant c.args.event) _ _ c.in_ok-row.ensures _ c.in-Some.ensures c.in_default-find_room.ensures in
+    rw (← c.read-score.ensures) record { same = refl; said = a.said; left = a.left }
+
+pub find_ticks-requires-clause-more : goal.find_ticks-requires-clause-more
+find_ticks-requires-clause-more c = let t = c.in_ok-row.ensures in short_row (event_meant c.args.event) c.in_ok-row.row t.can_write t.words
+
+pub returns-in_default-find_ticks : goal.returns-in_default-find_ticks
+returns-in_default-find_ticks c =
+    let a = too_long_to_put c.read-score.result.words.now c.read-score.result.holds c.args.voice c.args.index (event_meant c.args.event) _ _ c.in_ok-row.ensures _ c.in-Some.ensures c.in_default-find_ticks.ensures in
+    rw (← c.read-score.ensures) record { same = refl; said = a.said; left = a.left }
+
+pub insert_event-requires-clause-within : goal.insert_event-requires-clause-within
+insert_event-requires-clause-within c =
+    let g = gap_in_all c.read-score.result.words.now c.read-score.result.holds c.args.voice c.args.index (event_meant c.args.event) _ _ c.in_ok-row.ensures _ c.in-Some.ensures in
+    omega (arith, g, c.in-Some-find_room.ensures.0)
+
+pub invariant_of-self : goal.invariant_of-self
+invariant_of-self c =
+    let d = put_is c.read-score.result.words.now c.read-score.result.holds c.args.voice c.args.index (event_meant c.args.event) _ _ c.in_ok-row.ensures _ c.in-Some.ensures _ _ c.in-Some-find_room.ensures c.in-Some-find_ticks.ensures in
+    let left = rw (← c.read-score.ensures) at c.insert_event.ensures in
+    record { holds = subst Holds (sym left) d.holds }
+
+pub returns : goal.returns
+returns c =
+    let d = put_is c.read-score.result.words.now c.read-score.result.holds c.args.voice c.args.index (event_meant c.args.event) _ _ c.in_ok-row.ensures _ c.in-Some.ensures _ _ c.in-Some-find_room.ensures c.in-Some-find_ticks.ensures in
+    let left = rw (← c.read-score.ensures) at c.insert_event.ensures in
+    rw (← c.read-score.ensures) record { same = refl; said = d.said; left = left ∙ d.left }

@@ -1,0 +1,178 @@
+//! What rows of bytes are made of: symbols, and notes as they are heard.
+ghost use Rattle.std.specs.Prelude.{◌≡◌, ℕ, ◌≤◌, List, ◌++◌, length, drop, refl, IsSome, Option};
+ghost use Rattle.std.specs.Option.{option_map};
+ghost use Rattle.score.specs.Music.{Heard};
+ghost use Rattle.score.specs.Print as Print;
+ghost use Rattle.score.specs.Calls.{Answer, symbols, sounds};
+ghost use Rattle.score.specs.Meaning.{symbol_meant, sound_meant};
+ghost use Rattle.wire.specs.Bytes.{symbol_bytes, sound_bytes};
+ghost use Rattle.wire.specs.Reading.{symbol_of, sound_of};
+ghost use Rattle.wire.specs.Faithful.{Back};
+ghost use Rattle.wire.specs.Items.{length_symbol, symbols_back, sounds_back};
+
+use score::{Sound, Symbol};
+
+/// What a row of bytes has one after the other, in as many bytes each.
+pub trait Item: Copy {
+    ghost Meaning: { Type 0 };
+
+    ghost SIZE: { ℕ };
+
+    ghost meant: { Self → Meaning };
+
+    ghost written: { Meaning → List ℕ };
+
+    ghost of: { List ℕ → Option Meaning };
+
+    ghost answer: { List Meaning → Answer };
+
+    /// How many bytes one takes.
+    const SIZE: usize;
+
+    /// Writes it over the first bytes, and returns how many that is.
+    fn write(self, out: &mut [u8]) -> usize
+        requires { SIZE ≤ length out.old }
+        ensures wrote { out.new ≡ written (meant self) ++ drop result out.old }
+        ensures many { result ≡ SIZE };
+
+    /// The one that stands at the front of bytes: none if they are too few or say none.
+    fn read(bytes: &[u8]) -> Option<Self>
+        ensures said { option_map meant result ≡ of bytes.now }
+        ensures there { IsSome result → SIZE ≤ length bytes.now };
+
+    ghost wide: { (x : Meaning) → length (written x) ≡ SIZE };
+
+    ghost back: { Back written of };
+}
+
+impl Item for Symbol {
+    ghost Meaning = { Print.Symbol };
+
+    ghost SIZE = { 5 };
+
+    ghost meant = { symbol_meant };
+
+    ghost written = { symbol_bytes };
+
+    ghost of = { symbol_of };
+
+    ghost answer = { symbols };
+
+    const SIZE: usize = 5;
+
+    fn write(self, out: &mut [u8]) -> usize {
+        let row = match self {
+            Symbol::BarLine => [0, 0, 0, 0, 0],
+            Symbol::Head {
+                place,
+                sign,
+                value,
+                tied,
+            } => {
+                let [low, high] = value.to_le_bytes();
+                let kind = if tied { 2 } else { 1 };
+                [kind, place, sign, low, high]
+            }
+            Symbol::Rest { value } => {
+                let [low, high] = value.to_le_bytes();
+                [3, 0, 0, low, high]
+            }
+        };
+        out[0..5].copy_from_slice(&row);
+        5
+    }
+
+    fn read(bytes: &[u8]) -> Option<Symbol> {
+        let [kind, place, sign, low, high, ..] = bytes else {
+            return None;
+        };
+        let value = u16::from_le_bytes([*low, *high]);
+        // An enum of kinds would be no plainer: two of them are a head, which differs by its tie alone.
+        match *kind {
+            0 => Some(Symbol::BarLine),
+            1 | 2 => Some(Symbol::Head {
+                place: *place,
+                sign: *sign,
+                value,
+                tied: *kind == 2,
+            }),
+            3 => Some(Symbol::Rest { value }),
+            _ => None,
+        }
+    }
+
+    ghost wide = { length_symbol };
+
+    ghost back = { symbols_back };
+}
+
+impl Item for Sound {
+    ghost Meaning = { ℕ × Heard };
+
+    ghost SIZE = { 8 };
+
+    ghost meant = { sound_meant };
+
+    ghost written = { sound_bytes };
+
+    ghost of = { sound_of };
+
+    ghost answer = { sounds };
+
+    const SIZE: usize = 8;
+
+    fn write(self, out: &mut [u8]) -> usize {
+        let [a, b, c, d] = self.start.to_le_bytes();
+        let [low, high] = self.length.to_le_bytes();
+        out[0..8].copy_from_slice(&[self.voice, self.tone, a, b, c, d, low, high]);
+        8
+    }
+
+    fn read(bytes: &[u8]) -> Option<Sound> {
+        let [voice, tone, a, b, c, d, low, high, ..] = bytes else {
+            return None;
+        };
+        Some(Sound {
+            voice: *voice,
+            start: u32::from_le_bytes([*a, *b, *c, *d]),
+            length: u16::from_le_bytes([*low, *high]),
+            tone: *tone,
+        })
+    }
+
+    ghost wide = { λ _. refl };
+
+    ghost back = { sounds_back };
+}
+
+/// Writes a symbol over the first five bytes, and returns how many that is.
+pub fn write_symbol(out: &mut [u8], symbol: Symbol) -> usize
+    requires { 5 ≤ length out.old }
+    ensures wrote { out.new ≡ symbol_bytes (symbol_meant symbol) ++ drop result out.old }
+    ensures many { result ≡ 5 }
+{
+    symbol.write(out)
+}
+
+/// Writes a note as it is heard over the first eight bytes.
+pub fn write_sound(out: &mut [u8], sound: Sound) -> usize
+    requires { 8 ≤ length out.old }
+    ensures wrote { out.new ≡ sound_bytes (sound_meant sound) ++ drop result out.old }
+    ensures many { result ≡ 8 }
+{
+    sound.write(out)
+}
+
+/// The symbol that stands at the front of bytes: none if they are too few or its kind is unknown.
+pub fn read_symbol(bytes: &[u8]) -> Option<Symbol>
+    ensures { option_map symbol_meant result ≡ symbol_of bytes.now }
+{
+    Symbol::read(bytes)
+}
+
+/// The note, as it is heard, that stands at the front of bytes: none if they are too few.
+pub fn read_sound(bytes: &[u8]) -> Option<Sound>
+    ensures { option_map sound_meant result ≡ sound_of bytes.now }
+{
+    Sound::read(bytes)
+}
