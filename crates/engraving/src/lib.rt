@@ -17,7 +17,7 @@ use keys::{Holds, begin_bar, sign_of};
 use lengths::{ValuesOf, part_in_bar};
 use rows::Row;
 use score::{PLACES, Symbol};
-use wire::write_symbol;
+use wire::Item;
 
 pub mod voice;
 
@@ -86,11 +86,11 @@ impl Voice<'_> {
                 'values: for value in ValuesOf(part_in_bar(left, layout.bar, begun)) {
                     left -= value;
                     begun += value;
-                    at += write_symbol(&mut out[at..], symbol_of(row, sign, value, left > 0));
+                    at += symbol_of(row, sign, value, left > 0).write(&mut out[at..]);
                     sign = None;
                 }
                 if begun == layout.bar {
-                    at += write_symbol(&mut out[at..], Symbol::BarLine);
+                    at += Symbol::BarLine.write(&mut out[at..]);
                     begun = 0;
                     more -= 1;
                     if more == 0 {

@@ -10,7 +10,7 @@ mod tests {
     use score::{Layout, Symbol};
     use std::process::Abort;
     use std::test::Fail;
-    use wire::read_symbol;
+    use wire::Item;
 
     // places, of which the last is that of a silence
     const E3: u8 = 23;
@@ -88,7 +88,7 @@ mod tests {
             && bytes.len() == symbols.len()
             && bytes
                 .zip(symbols)
-                .all(|(bytes, symbol)| read_symbol(bytes) == Some(*symbol))
+                .all(|(bytes, symbol)| Symbol::read(bytes) == Some(*symbol))
     }
 
     const NOTHING: Heard = Heard {

@@ -18,7 +18,7 @@ ghost use Rattle.reading.specs.Told.{state, heard_meant, notes, listed};
 use keys::{Holds, begin_bar, tone};
 use score::{ALTERATIONS, PLACES, Symbol};
 use std::fmt;
-use wire::read_symbol;
+use wire::Item;
 
 pub mod player;
 
@@ -197,7 +197,7 @@ pub fn play(player: Player, symbol: Symbol, signature: u32, holds: &mut Holds) -
 fn next_symbol(bytes: &[u8]) -> Option<Symbol>
     ensures { option_map symbol_meant result ≡ playable (symbol_of bytes.now) }
 {
-    let symbol = read_symbol(bytes)?;
+    let symbol = Symbol::read(bytes)?;
     if let Symbol::Head { place, sign, .. } = symbol {
         if place as usize >= PLACES || sign as u32 > ALTERATIONS {
             return None;

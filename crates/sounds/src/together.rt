@@ -9,7 +9,7 @@ use super::{GRAIN, mark_voice, silences_first, sound_of};
 use rows::{Row, Rows};
 use score::{MOST_VOICES, WIDEST_SPAN};
 use voices::Stored;
-use wire::write_sound;
+use wire::Item;
 
 /// The widest span has so many slots, one for each tick at which a note may begin.
 const MOST_SLOTS: usize = WIDEST_SPAN as usize / GRAIN;
@@ -134,7 +134,7 @@ impl Marked<'_> {
                 voices ^= 1 << voice;
                 let (at, row) = self.voices.next_note(cursors[voice as usize]);
                 cursors[voice as usize] = at + 1;
-                write_sound(&mut out[8 * count..], sound_of(row, voice as u8, start));
+                sound_of(row, voice as u8, start).write(&mut out[8 * count..]);
                 count += 1;
             }
         }

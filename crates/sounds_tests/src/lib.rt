@@ -10,7 +10,7 @@ mod tests {
     use score::Sound;
     use sounds::{heard, heard_in};
     use voices::Stored;
-    use wire::read_sound;
+    use wire::Item;
 
     // A score of four voices: c4, d4 and e4; nothing; a silence and g4; e4, a long silence and c4.
     fn score() -> [u32; 36]
@@ -41,11 +41,11 @@ mod tests {
         let score = Stored::of(&words);
         let mut out = [255; 64];
         assert_eq!(rt; heard_in(score, 0, 1536, &mut out), 5);
-        assert_eq!(rt; read_sound(&out[0..]), note(0, 0, 48, 50));
-        assert_eq!(rt; read_sound(&out[8..]), note(3, 0, 96, 54));
-        assert_eq!(rt; read_sound(&out[16..]), note(0, 48, 48, 52));
-        assert_eq!(rt; read_sound(&out[24..]), note(2, 48, 48, 57));
-        assert_eq!(rt; read_sound(&out[32..]), note(0, 96, 96, 54));
+        assert_eq!(rt; Sound::read(&out[0..]), note(0, 0, 48, 50));
+        assert_eq!(rt; Sound::read(&out[8..]), note(3, 0, 96, 54));
+        assert_eq!(rt; Sound::read(&out[16..]), note(0, 48, 48, 52));
+        assert_eq!(rt; Sound::read(&out[24..]), note(2, 48, 48, 57));
+        assert_eq!(rt; Sound::read(&out[32..]), note(0, 96, 96, 54));
         assert_eq!(rt; out[40], 255);
     }
 
@@ -60,9 +60,9 @@ mod tests {
         assert_eq!(rt; heard_in(score, 4294967295, 4294967295, &mut out), 0);
         assert_eq!(rt; out[0], 255);
         assert_eq!(rt; heard_in(score, 47, 49, &mut out), 2);
-        assert_eq!(rt; read_sound(&out[8..]), note(2, 48, 48, 57));
+        assert_eq!(rt; Sound::read(&out[8..]), note(2, 48, 48, 57));
         assert_eq!(rt; heard_in(score, 1536, 3072, &mut out), 1);
-        assert_eq!(rt; read_sound(&out[0..]), note(3, 1536, 48, 50));
+        assert_eq!(rt; Sound::read(&out[0..]), note(3, 1536, 48, 50));
     }
 
     // The last note of a voice.

@@ -143,35 +143,3 @@ impl Item for Sound {
 
     ghost back = { sounds_back };
 }
-
-/// Writes a symbol over the first five bytes, and returns how many that is.
-pub fn write_symbol(out: &mut [u8], symbol: Symbol) -> usize
-    requires { 5 ≤ length out.old }
-    ensures wrote { out.new ≡ symbol_bytes (symbol_meant symbol) ++ drop result out.old }
-    ensures many { result ≡ 5 }
-{
-    symbol.write(out)
-}
-
-/// Writes a note as it is heard over the first eight bytes.
-pub fn write_sound(out: &mut [u8], sound: Sound) -> usize
-    requires { 8 ≤ length out.old }
-    ensures wrote { out.new ≡ sound_bytes (sound_meant sound) ++ drop result out.old }
-    ensures many { result ≡ 8 }
-{
-    sound.write(out)
-}
-
-/// The symbol that stands at the front of bytes: none if they are too few or its kind is unknown.
-pub fn read_symbol(bytes: &[u8]) -> Option<Symbol>
-    ensures { option_map symbol_meant result ≡ symbol_of bytes.now }
-{
-    Symbol::read(bytes)
-}
-
-/// The note, as it is heard, that stands at the front of bytes: none if they are too few.
-pub fn read_sound(bytes: &[u8]) -> Option<Sound>
-    ensures { option_map sound_meant result ≡ sound_of bytes.now }
-{
-    Sound::read(bytes)
-}

@@ -14,7 +14,7 @@ pub use answers::{
     write_symbols_head,
 };
 pub use calls::{read_call, write_call};
-pub use items::{Item, read_sound, read_symbol, write_sound, write_symbol};
+pub use items::Item;
 
 /// Writes a row over the first bytes, and returns how many that is.
 fn write_row(out: &mut [u8], row: &[u8]) -> usize

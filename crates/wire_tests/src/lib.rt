@@ -7,7 +7,7 @@ ghost use Rattle.std.specs.Prelude.{◌<◌, ◌≤◌, length};
 mod tests {
     use score::{Call, Event, Refusal, Sound, Symbol};
     use std::process::Abort;
-    use wire::{Item, read_call, read_symbol, write_call};
+    use wire::{Item, read_call, write_call};
 
     // A call, and its bytes.
     #[derive(Clone, Copy)]
@@ -187,7 +187,7 @@ mod tests {
         written_and_read(&rt, tied, &[2, 31, 4, 144, 0]);
         written_and_read(&rt, Symbol::Rest { value: 65535 }, &[3, 0, 0, 255, 255]);
         for kind in 4..=255 {
-            assert_eq!(rt; read_symbol(&[kind, 28, 0, 192, 0]), None);
+            assert_eq!(rt; Symbol::read(&[kind, 28, 0, 192, 0]), None);
         }
         let sound = Sound {
             voice: 63,

@@ -101,14 +101,14 @@ overflow_add-begun c = let v = value (goal.at.overflow_add-begun c).In-Some in o
 pub symbol_of-requires-clause-value : goal.symbol_of-requires-clause-value
 symbol_of-requires-clause-value c = (value (goal.at.symbol_of-requires-clause-value c).In-Some).small
 
-pub write_symbol-at-requires : goal.write_symbol-at-requires
-write_symbol-at-requires c = room _ _ c.values.invariant.0 (value (goal.at.write_symbol-at-requires c).In-Some).owes (omega arith)
+pub write-at-requires : goal.write-at-requires
+write-at-requires c = room _ _ c.values.invariant.0 (value (goal.at.write-at-requires c).In-Some).owes (omega arith)
 
 pub values-preserved : goal.values-preserved
 values-preserved c =
     let v = value (goal.at.values-preserved c).In-Some in (
-      write _ _ c.write_symbol-at.new.out c.write_symbol-at.result c.values.invariant.0 v.owes (omega arith) c.write_symbol-at.ensures.many
-          (c.write_symbol-at.ensures.wrote ∙ ap (λ (x : Symbol). symbol_bytes x ++ drop c.write_symbol-at.result (take (length c.values.out - c.values.at) (drop c.values.at c.values.out))) c.symbol_of.ensures),
+      write _ _ c.write-at.new.out c.write-at.result c.values.invariant.0 v.owes (omega arith) c.write-at.ensures.many
+          (c.write-at.ensures.wrote ∙ ap (λ (x : Symbol). symbol_bytes x ++ drop c.write-at.result (take (length c.values.out - c.values.at) (drop c.values.at c.values.out))) c.symbol_of.ensures),
       v.fits,
       omega (arith, v.three),
       omega (arith, v.three, v.within),
@@ -118,13 +118,13 @@ values-preserved c =
       omega (arith, v.within),
     )
 
-pub write_symbol-at-requires-then-begun-layout : goal.write_symbol-at-requires-then-begun-layout
-write_symbol-at-requires-then-begun-layout c = room _ _ c.values.invariant.0 (line (goal.at.write_symbol-at-requires-then-begun-layout c).Then-begun-layout) (omega arith)
+pub write-at-requires-then-begun-layout : goal.write-at-requires-then-begun-layout
+write-at-requires-then-begun-layout c = room _ _ c.values.invariant.0 (line (goal.at.write-at-requires-then-begun-layout c).Then-begun-layout) (omega arith)
 
 pub bars-preserved-then-begun-layout : goal.bars-preserved-then-begun-layout
 bars-preserved-then-begun-layout c =
     let e = line (goal.at.bars-preserved-then-begun-layout c).Then-begun-layout in
-    let w = write _ _ c.write_symbol-at-then-begun-layout.new.out c.write_symbol-at-then-begun-layout.result c.values.invariant.0 e (omega arith) c.write_symbol-at-then-begun-layout.ensures.many c.write_symbol-at-then-begun-layout.ensures.wrote in (
+    let w = write _ _ c.write-at-then-begun-layout.new.out c.write-at-then-begun-layout.result c.values.invariant.0 e (omega arith) c.write-at-then-begun-layout.ensures.many c.write-at-then-begun-layout.ensures.wrote in (
       leave c.bars.at (owing _ w (begins_bar _ _ _ _ _ _ _ _ c.begin_bar.ensures)) c.bars.invariant.0.back (omega arith),
       omega (arith, c.args.self.ready.some),
       refl,
@@ -167,6 +167,6 @@ returns-after-events c =
 pub returns-then-more-eq0 : goal.returns-then-more-eq0
 returns-then-more-eq0 c =
     let e = line (goal.at.returns-then-more-eq0 c).Then-begun-layout in
-    let w = write _ _ c.write_symbol-at-then-begun-layout.new.out c.write_symbol-at-then-begun-layout.result c.values.invariant.0 e (omega arith) c.write_symbol-at-then-begun-layout.ensures.many c.write_symbol-at-then-begun-layout.ensures.wrote in
+    let w = write _ _ c.write-at-then-begun-layout.new.out c.write-at-then-begun-layout.result c.values.invariant.0 e (omega arith) c.write-at-then-begun-layout.ensures.many c.write-at-then-begun-layout.ensures.wrote in
     let a = all (leave {was = c.args.out.now} c.events.at (leave {was = c.events.out} c.bars.at w c.bars.invariant.0.back (omega arith)) c.events.invariant.0.back (omega arith)) (no_bar _ _ _ _ _ _ _ c.if-more-eq0.true) in
     record { wrote = a.0; many = a.1 }

@@ -32,9 +32,9 @@ sound_of-requires c =
     let row = c.next_note-at.ensures.row in
     record { place = rw row u.place; alteration = rw row u.alteration; long = rw row u.long }
 
-pub write_sound-requires : goal.write_sound-requires
-write_sound-requires c =
-    let room = writing_room (length c.args.out.now) c.loop-index.invariant c.loop-voices.invariant.writing (turn (goal.at.write_sound-requires c).After-next_note-at) c.requires in
+pub write-requires : goal.write-requires
+write-requires c =
+    let room = writing_room (length c.args.out.now) c.loop-index.invariant c.loop-voices.invariant.writing (turn (goal.at.write-requires c).After-next_note-at) c.requires in
     simp (take_rest, length-drop) (omega (arith, room))
 
 pub loop-voices-smaller : goal.loop-voices-smaller
@@ -48,7 +48,7 @@ loop-voices-preserved c =
     let few : voice < 64 = omega (arith, u.there, c.args.self.voices.laid.few_voices) in
     let sound = c.sound_of.ensures ∙ ap (λ (r : Row). (voice, heard_at r (grain * (c.args.self.first + c.loop-index.index)))) c.next_note-at.ensures.row in
     simp (one_shl voice 64 few) (record {
-      writing = writing_turn c.write_sound.new.out c.loop-voices.invariant.writing u (omega (arith, room)) sound c.write_sound.ensures.many c.write_sound.ensures.wrote;
+      writing = writing_turn c.write.new.out c.loop-voices.invariant.writing u (omega (arith, room)) sound c.write.ensures.many c.write.ensures.wrote;
       small = xor_lt 64 _ _ c.loop-voices.invariant.small (pow_below voice 64 few);
     })
 
