@@ -110,12 +110,12 @@ fn read_fields<const N: usize>(bytes: &[u8]) -> Result<[u32; N], Refusal>
     requires { N ≤ 3 }
     ensures { read_as (λ x. x) result ≡ fields N bytes.now }
 {
-    let mut rest = Rest { bytes, place: 1 };
+    let mut unread = Unread { bytes, place: 1 };
     let mut fields = [0; N];
     for field in fields.iter_mut() {
-        *field = rest.field()?;
+        *field = unread.field()?;
     }
-    rest.end()?;
+    unread.end()?;
     Ok(fields)
 }
 
@@ -123,22 +123,22 @@ fn read_fields<const N: usize>(bytes: &[u8]) -> Result<[u32; N], Refusal>
 fn fields_and_event(bytes: &[u8]) -> Result<(u32, u32, Event), Refusal>
     ensures { read_as (λ x. (x.0, x.1, event_meant x.2)) result ≡ fields_and_event bytes.now }
 {
-    let mut rest = Rest { bytes, place: 1 };
-    let voice = rest.field()?;
-    let index = rest.field()?;
-    let event = rest.event()?;
-    rest.end()?;
+    let mut unread = Unread { bytes, place: 1 };
+    let voice = unread.field()?;
+    let index = unread.field()?;
+    let event = unread.event()?;
+    unread.end()?;
     Ok((voice, index, event))
 }
 
 /// What is left to read of a call, and the place where it begins.
 #[derive(Drop)]
-struct Rest<'a> {
+struct Unread<'a> {
     bytes: &'a [u8],
     place: u32,
 }
 
-impl Rest<'_> {
+impl Unread<'_> {
     /// A number in four bytes.
     fn field(&mut self) -> Result<u32, Refusal>
         requires { self.old.place ≤ 10 }

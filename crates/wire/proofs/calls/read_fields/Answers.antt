@@ -30,7 +30,7 @@ loop-field-preserved g c =
       next = omega (arith, c.in_ok-field.ensures.next);
       read =
           ap (λ n. ahead (take (i + 1) (set fields i v)) (fields_at n (g.row.N - (i + 1)) c.field.new.self.bytes.now)) c.in_ok-field.ensures.next
-          ∙ field_more c.loop-field.rest.place g.row.N i c.loop-field.rest.bytes.now c.field.new.self.bytes.now v (take i fields) _ _
+          ∙ field_more c.loop-field.unread.place g.row.N i c.loop-field.unread.bytes.now c.field.new.self.bytes.now v (take i fields) _ _
           c.loop-field-test.true c.in_ok-field.ensures.read (rw add-one (take-suc-set fields i v (omega (arith, c.loop-field.invariant.long)))) c.loop-field.invariant.read;
     }
 
@@ -38,19 +38,19 @@ pub returns-in_err-field : goal.returns-in_err-field
 returns-in_err-field g c =
     let p = err_from_is_err_and c.from_residual.result c.from_residual.ensures.1 in
     rw (p.1, p.2)
-    (field_none c.loop-field.rest.place g.row.N c.loop-field.field-index c.loop-field.rest.bytes.now (take c.loop-field.field-index c.loop-field.field-items) _ _
+    (field_none c.loop-field.unread.place g.row.N c.loop-field.field-index c.loop-field.unread.bytes.now (take c.loop-field.field-index c.loop-field.field-items) _ _
     c.loop-field-test.true c.in_err-field.ensures.read c.loop-field.invariant.read)
 
 pub returns-in_err-end : goal.returns-in_err-end
 returns-in_err-end g c =
     let p = err_from_is_err_and c.from_residual-in_err-end.result c.from_residual-in_err-end.ensures.1 in
     rw (p.1, p.2)
-    (field_over c.loop-field.rest.place g.row.N c.loop-field.field-index c.loop-field.rest.bytes.now (take c.loop-field.field-index c.loop-field.field-items) _ _
+    (field_over c.loop-field.unread.place g.row.N c.loop-field.field-index c.loop-field.unread.bytes.now (take c.loop-field.field-index c.loop-field.field-items) _ _
     (omega arith) c.in_err-end.ensures c.loop-field.invariant.read)
 
 pub returns : goal.returns
 returns g c =
     let i : ℕ = c.loop-field.field-index in
     ap Ok (sym (take_all i c.loop-field.field-items (omega (arith, c.loop-field.invariant.long))))
-    ∙ field_all c.loop-field.rest.place g.row.N i c.loop-field.rest.bytes.now (take i c.loop-field.field-items) _ (omega arith) c.in_ok-end.ensures
+    ∙ field_all c.loop-field.unread.place g.row.N i c.loop-field.unread.bytes.now (take i c.loop-field.field-items) _ (omega arith) c.in_ok-end.ensures
     c.loop-field.invariant.read

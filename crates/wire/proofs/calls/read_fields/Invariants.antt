@@ -8,6 +8,6 @@ abbrev pub invariant-loop-field : goal.invariant-loop-field
 invariant-loop-field g l =
     record {
       long : length l.field-items ≡ g.row.N;
-      next : l.rest.place ≡ 1 + 4 * l.field-index;
-      read : ahead (take l.field-index l.field-items) (fields_at l.rest.place (g.row.N - l.field-index) l.rest.bytes.now) ≡ fields_at 1 g.row.N l.bytes;
+      next : l.unread.place ≡ 1 + 4 * l.field-index;
+      read : ahead (take l.field-index l.field-items) (fields_at l.unread.place (g.row.N - l.field-index) l.unread.bytes.now) ≡ fields_at 1 g.row.N l.bytes;
     }
