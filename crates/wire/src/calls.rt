@@ -73,7 +73,7 @@ pub fn read_call(bytes: &[u8]) -> Result<Call, Refusal>
     let [number, fields @ ..] = bytes else {
         return Err(Refusal::Unreadable(0));
     };
-    // An enum of kinds of call would need this match, from a byte, and another to what is read by it.
+    // An enum of kinds of call would need this match, from a byte, and another to what is read by it. What a closure makes of an array is not proved.
     match *number {
         0 => fields_and_event(fields).map(|(voice, index, event)| Call::Put {
             voice,
