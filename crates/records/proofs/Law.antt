@@ -6,7 +6,8 @@ use Rattle.score.specs.Calls.{Call, Answer, done, refused, symbols, sounds, numb
 use Rattle.memory.specs.Store.{limits_of, layout_of, score_of}
 use Rattle.memory.specs.Words.{Holds, answer_by, answer_at, next_words}
 use Rattle.memory.proofs.Outcomes.{holds_next}
-use Rattle.records.specs.Records.{event_in, put_last, Outcome, one_more, if_done, put_all, puts, events_for, SoManyPuts}
+use Rattle.records.specs.Records.{put_last, Outcome, one_more, if_done, put_all, puts, events_for, SoManyPuts}
+use Rattle.rows.specs.Rows.{event_in}
 use Rattle.records.specs.declared.Record.{Record}
 use Rattle.records.proofs.Steps.{score_next, limits_next, layout_next, voices_put}
 
@@ -18,7 +19,7 @@ events_more : (v : ℕ) (r : Record) (rs : List Record) → events_for v (r ∷ 
 unfolding events_for
 events_more v r rs = go (eqb r.voice v)
   where
-    go : (b : Bool) → pick b (event_in r ∷ events_for v rs) (events_for v rs) ≡ pick b (event_in r ∷ []) [] ++ events_for v rs
+    go : (b : Bool) → pick b (event_in r.row ∷ events_for v rs) (events_for v rs) ≡ pick b (event_in r.row ∷ []) [] ++ events_for v rs
     go true = refl
     go false = refl
 

@@ -12,7 +12,8 @@ use Rattle.memory.specs.Words.{Holds, answer_by, answer_at, words_by, next_words
 use Rattle.memory.proofs.Back.{score_back}
 use Rattle.memory.proofs.Changes.{events_put}
 use Rattle.memory.proofs.Run.{kept_after}
-use Rattle.records.specs.Records.{event_in, put_last, events_for}
+use Rattle.records.specs.Records.{put_last, events_for}
+use Rattle.rows.specs.Rows.{event_in}
 use Rattle.records.specs.declared.Record.{Record}
 
 -- a voice that is not there has no events
@@ -80,12 +81,12 @@ module _ (l : Limits) (y : Layout) (s : Score) (v i : ℕ) (e : Event) where
 -- ---- a put last
 
 module _ (s : Score) (r : Record) (lt : r.voice < length s) where
-  last_in : insert (voice s r.voice) (length (voice s r.voice)) (event_in r) ≡ voice s r.voice ++ (event_in r ∷ [])
+  last_in : insert (voice s r.voice) (length (voice s r.voice)) (event_in r.row) ≡ voice s r.voice ++ (event_in r.row ∷ [])
   last_in =
       let V : List Event = voice s r.voice in
       let a : take (length V) V ≡ V = take_all (length V) V (omega arith) in
       let b : drop (length V) V ≡ [] = drop_all (length V) V (omega arith) in
-      ap (λ (x : List Event). x ++ (event_in r ∷ drop (length V) V)) a ∙ ap (λ (x : List Event). V ++ (event_in r ∷ x)) b
+      ap (λ (x : List Event). x ++ (event_in r.row ∷ drop (length V) V)) a ∙ ap (λ (x : List Event). V ++ (event_in r.row ∷ x)) b
 
   -- every voice is what it was, followed by the record's event if that is for it
   voice_last : (v : ℕ) → voice (changed s (put_last s r)) v ≡ voice s v ++ events_for v (r ∷ [])
@@ -93,11 +94,11 @@ module _ (s : Score) (r : Record) (lt : r.voice < length s) where
   voice_last v = go (eqb r.voice v) refl
     where
       go : (b : Bool) → eqb r.voice v ≡ b →
-          voice (set s r.voice (insert (voice s r.voice) (length (voice s r.voice)) (event_in r))) v ≡ voice s v ++ pick (eqb r.voice v) (event_in r ∷ []) []
+          voice (set s r.voice (insert (voice s r.voice) (length (voice s r.voice)) (event_in r.row))) v ≡ voice s v ++ pick (eqb r.voice v) (event_in r.row ∷ []) []
       go true z =
           let same : r.voice ≡ v = eqb-true r.voice v z in
-          ap (λ (u : ℕ). voice (set s r.voice (insert (voice s r.voice) (length (voice s r.voice)) (event_in r))) u) (sym same)
-          ∙ get_or-set_same s r.voice _ [] lt ∙ last_in ∙ ap (λ (u : ℕ). voice s u ++ (event_in r ∷ [])) same
+          ap (λ (u : ℕ). voice (set s r.voice (insert (voice s r.voice) (length (voice s r.voice)) (event_in r.row))) u) (sym same)
+          ∙ get_or-set_same s r.voice _ [] lt ∙ last_in ∙ ap (λ (u : ℕ). voice s u ++ (event_in r.row ∷ [])) same
           ∙ ap (λ (x : List Event). voice s v ++ x) (sym (pick_true _ _ _ z))
       go false z =
           get_or-set_other s r.voice v _ [] (λ q. eqb-false r.voice v z (sym q)) ∙ sym (append-nil (voice s v)) ∙ ap (λ (x : List Event). voice s v ++ x) (sym (pick_false _ _ _ z))
@@ -109,16 +110,16 @@ module _ (w : List ℕ) (h : Holds w) (r : Record) where
   module _ (a : answer_at w C ≡ done) where
     not_turned_away : turned (limits_of w) (layout_of w) (score_of w) C ≡ 0
     unfolding answer_by
-    not_turned_away = not_away (limits_of w) (layout_of w) (score_of w) r.voice _ (event_in r) a
+    not_turned_away = not_away (limits_of w) (layout_of w) (score_of w) r.voice _ (event_in r.row) a
 
     score_put : score_of (next_words w C) ≡ changed (score_of w) C
-    score_put = score_next w h C ∙ changed_so (limits_of w) (layout_of w) (score_of w) r.voice _ (event_in r) not_turned_away
+    score_put = score_next w h C ∙ changed_so (limits_of w) (layout_of w) (score_of w) r.voice _ (event_in r.row) not_turned_away
 
     voice_there : r.voice < length (score_of w)
-    voice_there = there (limits_of w) (layout_of w) (score_of w) r.voice _ (event_in r) not_turned_away
+    voice_there = there (limits_of w) (layout_of w) (score_of w) r.voice _ (event_in r.row) not_turned_away
 
     pub one_event_more : all_events (score_of (next_words w C)) ≡ suc (all_events (score_of w))
-    one_event_more = ap all_events score_put ∙ events_put (score_of w) r.voice _ (event_in r) voice_there (omega arith)
+    one_event_more = ap all_events score_put ∙ events_put (score_of w) r.voice _ (event_in r.row) voice_there (omega arith)
 
     pub voices_put : (v : ℕ) → voice (score_of (next_words w C)) v ≡ voice (score_of w) v ++ events_for v (r ∷ [])
     voices_put v = ap (λ (s : Score). voice s v) score_put ∙ voice_last (score_of w) r voice_there v
@@ -126,4 +127,4 @@ module _ (w : List ℕ) (h : Holds w) (r : Record) where
   pub words_stay : (f p : ℕ) → answer_at w C ≡ refused f p → next_words w C ≡ w
   unfolding words_by answer_by
   words_stay f p a =
-      ap (stored (limits_of w) (layout_of w)) (after_turned (limits_of w) (layout_of w) (score_of w) C (away (limits_of w) (layout_of w) (score_of w) r.voice _ (event_in r) f p a)) ∙ sym h.is
+      ap (stored (limits_of w) (layout_of w)) (after_turned (limits_of w) (layout_of w) (score_of w) C (away (limits_of w) (layout_of w) (score_of w) r.voice _ (event_in r.row) f p a)) ∙ sym h.is

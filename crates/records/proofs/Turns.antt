@@ -1,11 +1,13 @@
 -- Records that are put one after the other, turn by turn. Assumes nothing.
-use Rattle.std.proofs.Common.{◌≡◌, ℕ, suc, ◌+◌, ◌*◌, ◌<◌, ◌≤◌, List, ◌∷◌, length, sym, ap, ◌∙◌, subst, arith}
+use Rattle.std.proofs.Common.{◌≡◌, ℕ, suc, ◌+◌, ◌/◌, ◌<◌, ◌≤◌, List, [], ◌∷◌, length, get_or, drop, sym, ap, ◌∙◌, subst, arith}
+use Rattle.std.proofs.Math.Seq.{drop-cons}
+use Rattle.std.proofs.lemmas.List.{drop_all}
 use Rattle.score.specs.Calls.{Call, Answer, done, refused, all_events}
 use Rattle.memory.specs.Store.{score_of}
 use Rattle.memory.specs.Words.{Holds, answer_at, next_words}
 use Rattle.records.specs.Records.{put_last, records_of, end_of, Outcome, one_more, if_done, put_all, entered, SoManyPuts}
 use Rattle.records.specs.declared.Record.{Record}
-use Rattle.records.proofs.Numbers.{no_record}
+use Rattle.records.proofs.Numbers.{many_records}
 use Rattle.records.proofs.Steps.{one_event_more, words_stay}
 use Rattle.records.proofs.Law.{so_many_puts}
 
@@ -13,12 +15,10 @@ use Rattle.records.proofs.Law.{so_many_puts}
 abbrev pub so_far : ℕ → Outcome → Outcome
 so_far n o = record { words = o.words; count = n + o.count; next = o.next }
 
--- n records were put, which left these words, and these numbers are left
-pub record Going (w ns w' rest : List ℕ) (n : ℕ) : Type 0 where
-  pub holds : Holds w'
-  pub all : entered w ns ≡ so_far n (put_all w' (records_of rest) (end_of ns))
+-- n records were put, which left these words
+pub record Going (w ns w' : List ℕ) (n : ℕ) : Type 0 where
+  pub all : entered w ns ≡ so_far n (put_all w' (drop n (records_of ns)) (end_of ns))
   pub events : n ≤ all_events (score_of w')
-  pub numbers : 4 * n + length rest ≡ length ns
 
 -- what has come of all
 pub record Over (w ns w' : List ℕ) (n : ℕ) (next : Answer) : Type 0 where
@@ -35,53 +35,53 @@ over w ns w' n next h e = record {
   puts = subst (λ (o : Outcome). SoManyPuts w (records_of ns) o.words o.count o.next) e (so_many_puts w h (records_of ns) (end_of ns));
 }
 
-module _ (w ns w' rest : List ℕ) (n : ℕ) (g : Going w ns w' rest n) where
+module _ (w ns w' : List ℕ) (n : ℕ) (h : Holds w') (g : Going w ns w' n) where
   -- not more were put than there may be
   pub few : n ≤ 65536
-  few = omega (arith, g.events, g.holds.kept.fitting, g.holds.few_events)
+  few = omega (arith, g.events, h.kept.fitting, h.few_events)
 
   -- no record is left
-  pub ends : length rest < 4 → Holds w → Over w ns w' n (end_of ns)
+  pub ends : n ≡ length (records_of ns) → Holds w → Over w ns w' (length ns / 4) (end_of ns)
   unfolding put_all
-  ends short h =
-      let z : n + 0 ≡ n = omega arith in
-      over w ns w' n (end_of ns) h (g.all ∙ ap (λ (rs : List Record). so_far n (put_all w' rs (end_of ns))) (no_record rest short) ∙ ap (λ (m : ℕ). record { words = w'; count = m; next = end_of ns }) z)
+  ends e hw =
+      let z : n + 0 ≡ length ns / 4 = omega (arith, e, many_records ns) in
+      let none : drop n (records_of ns) ≡ [] = drop_all n (records_of ns) (omega arith) in
+      over w ns w' (length ns / 4) (end_of ns) hw (g.all ∙ ap (λ (rs : List Record). so_far n (put_all w' rs (end_of ns))) none ∙ ap (λ (m : ℕ). record { words = w'; count = m; next = end_of ns }) z)
 
   -- a record is left
-  module _ (r : Record) (more : List ℕ) (e : rest ≡ r.voice ∷ (r.place ∷ (r.alteration ∷ (r.length ∷ more)))) where
+  module _ (r : Record) (lt : n < length (records_of ns)) (e : r ≡ get_or (records_of ns) n r) where
     abbrev C : Call
     C = put_last (score_of w') r
 
-    again : entered w ns ≡ so_far n (put_all w' (r ∷ records_of more) (end_of ns))
-    unfolding records_of
-    again = g.all ∙ ap (λ (x : List ℕ). so_far n (put_all w' (records_of x) (end_of ns))) e
+    again : entered w ns ≡ so_far n (put_all w' (r ∷ drop (suc n) (records_of ns)) (end_of ns))
+    again =
+        let first : drop n (records_of ns) ≡ r ∷ drop (suc n) (records_of ns) = drop-cons (records_of ns) n r lt ∙ ap (λ x. x ∷ drop (suc n) (records_of ns)) (sym e) in
+        g.all ∙ ap (λ rs. so_far n (put_all w' rs (end_of ns))) first
 
     -- by what it is answered
     abbrev outcome : Answer → Outcome
-    outcome a = so_far n (if_done a (one_more (put_all (next_words w' C) (records_of more) (end_of ns))) (record { words = w'; count = 0; next = a }))
+    outcome a = so_far n (if_done a (one_more (put_all (next_words w' C) (drop (suc n) (records_of ns)) (end_of ns))) (record { words = w'; count = 0; next = a }))
 
     answered : entered w ns ≡ outcome (answer_at w' C)
     unfolding put_all
     answered = again
 
-    pub goes_on : (w'' : List ℕ) → done ≡ answer_at w' C → w'' ≡ next_words w' C → Holds w'' → Going w ns w'' more (n + 1)
-    goes_on w'' a l h =
-        let k = one_event_more w' g.holds r (sym a) in
-        let m = ap (λ (x : List ℕ). all_events (score_of x)) l in
-        let long = ap length e in
-        let o : Outcome = put_all (next_words w' C) (records_of more) (end_of ns) in
-        let count : n + suc o.count ≡ n + 1 + o.count = omega arith in
-        record {
-          holds = h;
+    pub goes_on : (w'' : List ℕ) (m : ℕ) → m ≡ suc n → done ≡ answer_at w' C → w'' ≡ next_words w' C → Going w ns w'' m
+    goes_on w'' m em a l =
+        let k = one_event_more w' h r (sym a) in
+        let s = ap (λ (x : List ℕ). all_events (score_of x)) l in
+        let o : Outcome = put_all (next_words w' C) (drop (suc n) (records_of ns)) (end_of ns) in
+        let count : n + suc o.count ≡ suc n + o.count = omega arith in
+        let now : Going w ns w'' (suc n) = record {
           all = answered ∙ ap outcome (sym a) ∙ ap (λ (c : ℕ). record { words = o.words; count = c; next = o.next }) count
-              ∙ ap (λ (x : List ℕ). so_far (n + 1) (put_all x (records_of more) (end_of ns))) (sym l);
-          events = omega (arith, k, m, g.events);
-          numbers = omega (arith, long, g.numbers);
-        }
+              ∙ ap (λ (x : List ℕ). so_far (suc n) (put_all x (drop (suc n) (records_of ns)) (end_of ns))) (sym l);
+          events = omega (arith, k, s, g.events);
+        } in
+        subst (λ x. Going w ns w'' x) (sym em) now
 
-    pub stops : (w'' : List ℕ) (f p : ℕ) → refused f p ≡ answer_at w' C → w'' ≡ next_words w' C → Holds w → Over w ns w'' n (refused f p)
-    stops w'' f p a l h =
-        let same : w' ≡ w'' = sym (l ∙ words_stay w' g.holds r f p (sym a)) in
-        let count : n + 0 ≡ n = omega arith in
-        over w ns w'' n (refused f p) h
-        (answered ∙ ap outcome (sym a) ∙ ap (λ (c : ℕ). record { words = w'; count = c; next = refused f p }) count ∙ ap (λ (x : List ℕ). record { words = x; count = n; next = refused f p }) same)
+    pub stops : (w'' : List ℕ) (m f p : ℕ) → m ≡ n → refused f p ≡ answer_at w' C → w'' ≡ next_words w' C → Holds w → Over w ns w'' m (refused f p)
+    stops w'' m f p em a l hw =
+        let same : w' ≡ w'' = sym (l ∙ words_stay w' h r f p (sym a)) in
+        let count : n + 0 ≡ m = omega (arith, em) in
+        over w ns w'' m (refused f p) hw
+        (answered ∙ ap outcome (sym a) ∙ ap (λ (c : ℕ). record { words = w'; count = c; next = refused f p }) count ∙ ap (λ (x : List ℕ). record { words = x; count = m; next = refused f p }) same)

@@ -2,20 +2,17 @@
 -- definitions.
 use Rattle.std.specs.Prelude.{◌≡◌, ℕ, suc, ◌%◌, ◌≤◌, List, [], ◌∷◌, ◌++◌, length, take, drop, replicate, Some, None, Option, ◌==◌}
 use Rattle.score.specs.declared.Refusal.{Refusal}
-use Rattle.score.specs.Music.{pick, places, Event, note, silence}
+use Rattle.score.specs.Music.{pick, Event}
 use Rattle.score.specs.Meaning.{refusal_meant}
 use Rattle.score.specs.Calls.{Call, put, Answer, done, refused, symbols, sounds, number, Limits, Layout, Score, voice, after, answers, ran}
 use Rattle.memory.specs.Store.{limits_of, layout_of, score_of}
 use Rattle.memory.specs.Words.{answer_at, next_words}
+use Rattle.rows.specs.Rows.{event_in}
 use Rattle.records.specs.declared.Record.{Record}
 
--- the event of a record: a silence where the place is the one that no note has
-abbrev pub event_in : Record → Event
-event_in r = pick (r.place == places) (silence r.length) (note r.place r.alteration r.length)
-
--- the call that puts it last in its voice
+-- the call that puts the event of a record last in its voice
 abbrev pub put_last : Score → Record → Call
-put_last s r = put r.voice (length (voice s r.voice)) (event_in r)
+put_last s r = put r.voice (length (voice s r.voice)) (event_in r.row)
 
 -- numbers, four to a record; those that are over at the end are none
 unfoldable pub records_of : List ℕ → List Record
@@ -23,7 +20,7 @@ records_of [] = []
 records_of (v ∷ []) = []
 records_of (v ∷ (p ∷ [])) = []
 records_of (v ∷ (p ∷ (a ∷ []))) = []
-records_of (v ∷ (p ∷ (a ∷ (d ∷ ns)))) = record { voice = v; place = p; alteration = a; length = d } ∷ records_of ns
+records_of (v ∷ (p ∷ (a ∷ (d ∷ ns)))) = record { voice = v; row = record { place = p; alteration = a; length = d } } ∷ records_of ns
 
 -- they are a record that ends too early, which is not readable where the numbers end
 abbrev pub end_of : List ℕ → Answer
@@ -69,7 +66,7 @@ puts l y s (r ∷ rs) = put_last s r ∷ puts l y (after l y s (put_last s r)) r
 -- the events of a voice among those of records, in their order
 unfoldable pub events_for : ℕ → List Record → List Event
 events_for v [] = []
-events_for v (r ∷ rs) = pick (r.voice == v) (event_in r ∷ events_for v rs) (events_for v rs)
+events_for v (r ∷ rs) = pick (r.voice == v) (event_in r.row ∷ events_for v rs) (events_for v rs)
 
 -- So many of the records were put, and no more: the score, whose limits and layout stay, is the one that so many calls leave, each of which is done; every
 -- voice is what it was, followed by the events that the records have for it; and what is said of the next one is what a call with it would be answered.

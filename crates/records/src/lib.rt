@@ -1,101 +1,82 @@
 //! Events as records: numbers, four to a record, that are put last in their voices one after the other.
 #![tactic(auto)]
 
-ghost use Rattle.std.specs.Prelude.{◌≡◌, ◌<◌, ◌≤◌, false, ◌∷◌, length, Some, None, MatchOption};
-ghost use Rattle.score.specs.Meaning.{event_meant};
-ghost use Rattle.score.specs.Music.{fine};
+ghost use Rattle.std.specs.Prelude.{◌≡◌, ◌<◌, ◌≤◌, length};
+ghost use Rattle.std.specs.Iterator.{YieldsFirst, item_count};
 ghost use Rattle.score.specs.Calls.{voice as voice_of_score};
 ghost use Rattle.memory.specs.Store.{score_of};
-ghost use Rattle.memory.specs.Words.{Holds, answer_at, next_words};
+ghost use Rattle.memory.specs.Words.{answer_at, next_words};
 ghost use Rattle.voices.specs.Said.{said_done};
-ghost use Rattle.records.specs.Records.{event_in, put_last, records_of, end_of, entered, said_next, SoManyPuts};
+ghost use Rattle.records.specs.Records.{put_last, records_of, end_of, entered, said_next, SoManyPuts};
 
+use rows::Row;
 use score::{Event, Refusal};
-use voices::{find_voice, put};
+use voices::{Stored, StoredMut};
 
-/// The place that a silence has, and no note.
-const SILENCE: u32 = 70;
-
-/// An event for a voice, as four numbers. The alteration of a silence is not read.
-#[derive(Clone, Copy)]
+/// An event for a voice, as numbers. The alteration of a silence is not read.
+#[derive(Clone, Copy, PartialEq, Eq, Debug)]
 pub struct Record {
     pub voice: u32,
-    pub place: u32,
-    pub alteration: u32,
-    pub length: u32,
+    pub row: Row,
+}
+
+/// Records as they stand in numbers, four to each, given from the front on; numbers that are over at the end are none.
+#[derive(Clone, Copy)]
+struct Records<'a> {
+    numbers: &'a [u32],
+}
+
+impl Iterator for Records<'_> {
+    type Item = Record;
+
+    ghost next_gives = { YieldsFirst (λ r. records_of r.numbers.now) };
+
+    ghost remaining = { item_count (λ r. records_of r.numbers.now) };
+
+    fn next(&mut self) -> Option<Record> {
+        let [voice, place, alteration, length, rest @ ..] = self.numbers else {
+            return None;
+        };
+        self.numbers = rest;
+        let row = Row {
+            place: *place,
+            alteration: *alteration,
+            length: *length,
+        };
+        Some(Record { voice: *voice, row })
+    }
 }
 
 /// How many records were put, and why the next was not, if one was left.
-#[derive(Clone, Copy)]
+#[derive(Clone, Copy, PartialEq, Eq, Debug)]
 pub struct Entered {
     pub count: usize,
     pub refusal: Option<Refusal>,
 }
 
 /// How many events a voice has, which is none if it is not there.
-fn count_of(words: &[u32], voice: u32) -> u32
-    requires { Holds words.now }
-    ensures { result ≡ length (voice_of_score (score_of words.now) voice) }
+fn count_of(score: Stored<'_>, voice: u32) -> u32
+    ensures { result ≡ length (voice_of_score (score_of score.entry.words.now) voice) }
 {
-    match find_voice(words, voice) {
+    match score.find_voice(voice) {
         Some(span) => span.count as u32,
         None => 0,
     }
 }
 
 impl Record {
-    /// The event, unless a number is too large for its field; then it cannot be written.
-    fn event(self) -> Option<Event>
-        ensures { MatchOption result (fine (event_in self) ≡ false) (λ e. event_meant e ≡ event_in self) }
+    /// Puts the event last in its voice. One that has a number too large for its field cannot be written.
+    fn put_last(self, score: &mut StoredMut<'_>) -> Result<(), Refusal>
+        ensures same { score.new.words.ghost_name ≡ score.old.words.ghost_name }
+        ensures said { said_done result ≡ answer_at score.old.words.now (put_last (score_of score.old.words.now) self) }
+        ensures left { score.new.words.now ≡ next_words score.old.words.now (put_last (score_of score.old.words.now) self) }
     {
-        let Ok(length) = u16::try_from(self.length) else {
-            return None;
-        };
-        if self.place == SILENCE {
-            return Some(Event::Silence { length });
-        }
-        let Ok(place) = u8::try_from(self.place) else {
-            return None;
-        };
-        let Ok(alteration) = u8::try_from(self.alteration) else {
-            return None;
-        };
-        Some(Event::Note {
-            place,
-            alteration,
-            length,
-        })
-    }
-
-    /// Puts the event last in its voice.
-    fn put_last(self, words: &mut [u32]) -> Result<(), Refusal>
-        requires { Holds words.old }
-        ensures said { said_done result ≡ answer_at words.old (put_last (score_of words.old) self) }
-        ensures left { words.new ≡ next_words words.old (put_last (score_of words.old) self) }
-        ensures holds { Holds words.new }
-    {
-        let Some(event) = self.event() else {
+        let Ok(event) = Event::try_from(self.row) else {
             return Err(Refusal::OutOfRange);
         };
-        let count = count_of(words, self.voice);
-        put(words, self.voice, count, event)
+        let count = count_of(score.read(), self.voice);
+        score.put(self.voice, count, event)
     }
-}
-
-/// The first record of some numbers, and the numbers behind it.
-fn first_record(numbers: &[u32]) -> Option<(Record, &[u32])>
-    ensures { elim result [ Some v ↦ numbers.now ≡ v.0.voice ∷ (v.0.place ∷ (v.0.alteration ∷ (v.0.length ∷ v.1.now))) | None ↦ length numbers.now < 4 ] }
-{
-    let [voice, place, alteration, length, rest @ ..] = numbers else {
-        return None;
-    };
-    let record = Record {
-        voice: *voice,
-        place: *place,
-        alteration: *alteration,
-        length: *length,
-    };
-    Some((record, rest))
 }
 
 /// Numbers that are over behind the last record are one that ends too early.
@@ -110,29 +91,25 @@ fn end_of(numbers: &[u32]) -> Option<Refusal>
 }
 
 /// Puts records last in their voices, one after the other, until one cannot be.
-pub fn put_records(words: &mut [u32], numbers: &[u32]) -> Entered
-    requires { Holds words.old }
+pub fn put_records(score: &mut StoredMut<'_>, numbers: &[u32]) -> Entered
+    ensures same { score.new.words.ghost_name ≡ score.old.words.ghost_name }
     ensures few { result.count ≤ 65536 }
-    ensures count { result.count ≡ (entered words.old numbers.now).count }
-    ensures next { said_next result.refusal ≡ (entered words.old numbers.now).next }
-    ensures left { words.new ≡ (entered words.old numbers.now).words }
-    ensures puts { SoManyPuts words.old (records_of numbers.now) words.new result.count (said_next result.refusal) }
-    ensures holds { Holds words.new }
+    ensures count { result.count ≡ (entered score.old.words.now numbers.now).count }
+    ensures next { said_next result.refusal ≡ (entered score.old.words.now numbers.now).next }
+    ensures left { score.new.words.now ≡ (entered score.old.words.now numbers.now).words }
+    ensures puts { SoManyPuts score.old.words.now (records_of numbers.now) score.new.words.now result.count (said_next result.refusal) }
 {
-    let mut rest = numbers;
-    let mut count = 0;
-    while let Some((record, more)) = first_record(rest) {
-        if let Err(refusal) = record.put_last(words) {
+    let records = Records { numbers };
+    for (count, record) in records.enumerate() {
+        if let Err(refusal) = record.put_last(score) {
             return Entered {
                 count,
                 refusal: Some(refusal),
             };
         }
-        count += 1;
-        rest = more;
     }
     Entered {
-        count,
+        count: numbers.len() / 4,
         refusal: end_of(numbers),
     }
 }
