@@ -99,7 +99,8 @@ impl Voice {
         } = Row::from(event);
         self.places.push(place)?;
         self.alterations.push(alteration)?;
-        self.lengths.push(length)
+        self.lengths.push(length)?;
+        Ok(())
     }
 
     fn rows(&self) -> Rows {
@@ -112,8 +113,7 @@ impl Voice {
 
     /// How long it is.
     fn ticks(&self) -> u64 {
-        self.rows()
-            .fold(0, |ticks: u64, row| ticks.saturating_add(row.length as u64))
+        self.rows().fold(0, |ticks: u64, row| ticks.saturating_add(row.length as u64))
     }
 
     /// What is heard of it, event by event.
