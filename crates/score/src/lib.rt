@@ -114,6 +114,15 @@ pub struct Layout {
     pub bar: u32,
 }
 
+/// What a score is opened with: its key, a bar's length in ticks, how many voices it has, and how many events there may be in all.
+#[derive(Clone, Copy, PartialEq, Eq, Debug)]
+pub struct Opening {
+    pub key: u32,
+    pub bar: u32,
+    pub voices: u32,
+    pub events: u32,
+}
+
 /// What is answered to a call. Of symbols and of sounds it says how many follow. A refusal is told by its number and place, whatever bytes say they are.
 #[derive(Clone, Copy, PartialEq, Eq, Debug)]
 pub enum Answer {

@@ -1,13 +1,13 @@
 //! Voices in lent words: where the events of a voice lie, how long it is, and the calls that put, cut and change events.
 #![tactic(auto)]
 
-ghost use Rattle.std.specs.Prelude.{◌≡◌, ◌+◌, ◌^◌, ◌<◌, ◌≤◌, true, false, length, take, drop, MatchOption, slice_set};
+ghost use Rattle.std.specs.Prelude.{◌≡◌, ◌+◌, ◌^◌, ◌<◌, ◌≤◌, true, false, length, take, drop, MatchOption};
 ghost use Rattle.score.specs.Meaning.{event_meant};
 ghost use Rattle.score.specs.Music.{fine};
 ghost use Rattle.score.specs.Calls.{empty_voices};
 ghost use Rattle.score.specs.Promise.{GoodLayout, GoodLimits, whole};
-ghost use Rattle.memory.specs.Store.{counts_from, words_asked, stored, limits_at, layout_at, voices_in, limit_in, places_from, alterations_from, lengths_from};
-ghost use Rattle.memory.specs.Words.{Holds, Spans};
+ghost use Rattle.memory.specs.Store.{words_asked, stored, limits_at, layout_at};
+ghost use Rattle.memory.specs.Words.{Holds};
 ghost use Rattle.rows.specs.Rows.{row_of};
 
 mod editing;
@@ -17,7 +17,7 @@ mod reading;
 pub use editing::StoredMut;
 pub use reading::Stored;
 use rows::Row;
-use score::Event;
+use score::{Event, Opening};
 
 /// The header's word for the key.
 pub const KEY: usize = 0;
@@ -34,66 +34,26 @@ pub const LIMIT: usize = 3;
 /// Behind the header: the first voice's word for how many events it has.
 pub const COUNTS: usize = 4;
 
-/// Where the regions of places, alterations and lengths begin.
-#[derive(Clone, Copy)]
-pub struct Regions {
-    pub places: usize,
-    pub alterations: usize,
-    pub lengths: usize,
-}
-
 /// Where the events of a voice lie in each of the three regions: so many words from a beginning on.
-#[derive(Clone, Copy)]
+#[derive(Clone, Copy, PartialEq, Eq, Debug)]
 pub struct Span {
     pub begin: usize,
     pub count: usize,
 }
 
-/// Writes the header's words.
-fn write_header(words: &mut [u32], key: u32, bar: u32, voices: u32, limit: u32)
-    requires { counts_from ≤ length words.old }
-    ensures { words.new ≡ slice_set (slice_set (slice_set (slice_set words.old 0 key) 1 bar) 2 voices) 3 limit }
-{
-    words[KEY] = key;
-    words[BAR] = bar;
-    words[VOICES] = voices;
-    words[LIMIT] = limit;
-}
-
 /// Lays out a score of empty voices in words that are as many as are asked for.
-pub fn lay_out(words: &mut [u32], key: u32, bar: u32, voices: u32, limit: u32)
-    requires layout { GoodLayout (layout_at key bar) }
-    requires limits { GoodLimits (limits_at whole true voices limit) }
-    requires size { length words.old ≡ words_asked voices limit }
-    ensures left { words.new ≡ stored (limits_at whole true voices limit) (layout_at key bar) (empty_voices voices) }
+pub fn lay_out(words: &mut [u32], opening: Opening)
+    requires layout { GoodLayout (layout_at opening.key opening.bar) }
+    requires limits { GoodLimits (limits_at whole true opening.voices opening.events) }
+    requires size { length words.old ≡ words_asked opening.voices opening.events }
+    ensures left { words.new ≡ stored (limits_at whole true opening.voices opening.events) (layout_at opening.key opening.bar) (empty_voices opening.voices) }
     ensures holds { Holds words.new }
 {
     words.fill(0);
-    write_header(words, key, bar, voices, limit);
-}
-
-/// Where the events of a voice lie, if the voice is there.
-pub fn find_voice(words: &[u32], voice: u32) -> Option<Span>
-    requires { Holds words.now }
-    ensures { MatchOption result (voices_in words.now ≤ voice) (λ p. Spans words.now voice p.begin p.count) }
-{
-    Stored::of(words).find_voice(voice)
-}
-
-/// Where the regions begin.
-pub fn regions_of(words: &[u32]) -> Regions
-    requires { Holds words.now }
-    ensures places { result.places ≡ places_from words.now }
-    ensures alterations { result.alterations ≡ alterations_from words.now }
-    ensures lengths { result.lengths ≡ lengths_from words.now }
-    ensures within { result.lengths + limit_in words.now ≡ length words.now }
-{
-    let [places, alterations, lengths] = Stored::of(words).begins();
-    Regions {
-        places,
-        alterations,
-        lengths,
-    }
+    words[KEY] = opening.key;
+    words[BAR] = opening.bar;
+    words[VOICES] = opening.voices;
+    words[LIMIT] = opening.events;
 }
 
 impl Span {
@@ -154,7 +114,13 @@ mod tests {
         };
         let silence = Event::Silence { length: 96 };
         let mut words = [1; 14];
-        lay_out(&mut words, 7, 192, 2, 2);
+        let opening = Opening {
+            key: 7,
+            bar: 192,
+            voices: 2,
+            events: 2,
+        };
+        lay_out(&mut words, opening);
         assert_eq!(rt; words, [7, 192, 2, 2, 0, 0, 0, 0, 0, 0, 0, 0, 0, 0]);
         assert_eq!(rt; StoredMut::of(&mut words).put(1, 0, c), Ok(()));
         assert_eq!(rt; StoredMut::of(&mut words).put(0, 0, silence), Ok(()));
