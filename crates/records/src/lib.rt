@@ -5,7 +5,7 @@ ghost use Rattle.std.specs.Prelude.{◌≡◌, ◌<◌, ◌≤◌, length};
 ghost use Rattle.std.specs.Iterator.{YieldsFirst, item_count};
 ghost use Rattle.score.specs.Calls.{voice as voice_of_score};
 ghost use Rattle.memory.specs.Store.{score_of};
-ghost use Rattle.memory.specs.Words.{answer_at, next_words};
+ghost use Rattle.memory.specs.Words.{Holds, answer_at, next_words};
 ghost use Rattle.voices.specs.Said.{said_done};
 ghost use Rattle.records.specs.Records.{put_last, records_of, end_of, entered, said_next, SoManyPuts};
 
@@ -90,8 +90,8 @@ fn end_of(numbers: &[u32]) -> Option<Refusal>
     Some(Refusal::Unreadable(numbers.len() as u32))
 }
 
-/// Puts records last in their voices, one after the other, until one cannot be.
-pub fn put_records(score: &mut StoredMut<'_>, numbers: &[u32]) -> Entered
+/// Puts records last in their voices of a score, one after the other, until one cannot be.
+fn put_all(score: &mut StoredMut<'_>, numbers: &[u32]) -> Entered
     ensures same { score.new.words.ghost_name ≡ score.old.words.ghost_name }
     ensures few { result.count ≤ 65536 }
     ensures count { result.count ≡ (entered score.old.words.now numbers.now).count }
@@ -112,4 +112,18 @@ pub fn put_records(score: &mut StoredMut<'_>, numbers: &[u32]) -> Entered
         count: numbers.len() / 4,
         refusal: end_of(numbers),
     }
+}
+
+/// Puts records last in their voices, one after the other, until one cannot be. It takes words, since callers lend a part of theirs, and what a StoredMut
+/// leaves in a part is not known when it is back: its value in the goal is any of that length (`words-1.given.0`).
+pub fn put_records(words: &mut [u32], numbers: &[u32]) -> Entered
+    requires { Holds words.old }
+    ensures few { result.count ≤ 65536 }
+    ensures count { result.count ≡ (entered words.old numbers.now).count }
+    ensures next { said_next result.refusal ≡ (entered words.old numbers.now).next }
+    ensures left { words.new ≡ (entered words.old numbers.now).words }
+    ensures puts { SoManyPuts words.old (records_of numbers.now) words.new result.count (said_next result.refusal) }
+    ensures holds { Holds words.new }
+{
+    put_all(&mut StoredMut::of(words), numbers)
 }

@@ -14,7 +14,7 @@ use Rattle.memory.proofs.Run.{kept_empty}
 use Rattle.memory.proofs.Stored.{length_stored}
 use Rattle.memory.proofs.Held.{holds_stored}
 use Rattle.session.specs.Session.{limits_for, layout_for, opens, sizes_of, open_answer, bytes_taken, Opened}
-use Rattle.session.specs.declared.Opening.{Opening}
+use Rattle.score.specs.declared.Opening.{Opening}
 use Rattle.session.specs.declared.Sizes.{Sizes}
 use Rattle.session.proofs.Lent.{memory_front, untouched, ready}
 

@@ -15,7 +15,7 @@ use Rattle.memory.proofs.Run.{kept_empty, kept_ran, left_is}
 use Rattle.memory.proofs.Outcomes.{Done, show_done, heard_done}
 use Rattle.session.specs.Session.{engraver, limits_for, layout_for, opens}
 use Rattle.session.specs.Promises.{WholeWay}
-use Rattle.session.specs.declared.Opening.{Opening}
+use Rattle.score.specs.declared.Opening.{Opening}
 use Rattle.session.proofs.Openings.{opens_good}
 
 -- a score as calls left it, and the memory in which it lies

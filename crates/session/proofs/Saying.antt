@@ -1,6 +1,8 @@
 -- What is written for a call is its answer. Assumes nothing.
-use Rattle.std.proofs.Common.{◌≡◌, ℕ, ◌+◌, ◌-◌, ◌*◌, ◌/◌, ◌≤◌, List, ◌++◌, length, get_or, take, drop, sym, ap, ◌∙◌, arith, length-append}
+use Rattle.std.proofs.Common.{◌≡◌, ℕ, ◌+◌, ◌-◌, ◌*◌, ◌/◌, ◌<◌, ◌≤◌, Bool, true, false, leb, Some, None, refl, List, ◌++◌, length, get_or, take, drop, sym, ap, ◌∙◌, arith, length-append}
 use borrow.Rule.Slice.PartMut.{put_mid}
+use Rattle.std.proofs.lemmas.Bool.{leb-true, leb-false}
+use Rattle.std.specs.Bool.{then_some}
 use Rattle.score.specs.Music.{Event, Heard}
 use Rattle.score.specs.Print.{Symbol}
 use Rattle.score.specs.Calls.{Call, show, heard_in, Answer, symbols, sounds, most_bars, widest_span, voice, together, told}
@@ -12,6 +14,21 @@ use Rattle.memory.specs.Words.{Holds, Spans, events_at, answer_at}
 use Rattle.memory.proofs.Outcomes.{show_done, heard_done}
 use Rattle.engraving.specs.Shown.{shown, asked_for}
 use Rattle.session.specs.Session.{Says}
+
+-- a number that is handed on if another is small enough
+pub kept : (d n m most : ℕ) → Some m ≡ then_some (leb d most) n → (m ≡ n) × (d ≤ most)
+kept d n m most e = go (leb d most) refl e
+  where
+    go : (b : Bool) → leb d most ≡ b → Some m ≡ then_some b n → (m ≡ n) × (d ≤ most)
+    go true l e = (cc, leb-true d most l)
+    go false l e = absurd (cc)
+
+pub not_kept : (d n most : ℕ) → None ≡ then_some (leb d most) n → most < d
+not_kept d n most e = go (leb d most) refl e
+  where
+    go : (b : Bool) → leb d most ≡ b → None ≡ then_some b n → most < d
+    go true l e = absurd (cc)
+    go false l e = leb-false d most l
 
 -- an answer is known, and it was written
 pub says : (w b b' : List ℕ) (c : Call) (a : Answer) (r : ℕ) → answer_at w c ≡ a → b' ≡ answer_bytes a ++ drop r b → r ≡ length (answer_bytes a) → Says w b b' c r

@@ -5,7 +5,7 @@ use Rattle.score.specs.Print.{Symbol, printed, read_from}
 use Rattle.score.specs.Calls.{Call, show, heard_in, symbols, sounds, empty_voices, most_bars, widest_span, voice, ran}
 use Rattle.score.specs.Promise.{Memory, left_by, whole, Right, RefusalKeeps, EnoughMemory, no_tie_over, later, of_voice, begun_in}
 use Rattle.session.specs.Session.{engraver, limits_for, layout_for, opens}
-use Rattle.session.specs.declared.Opening.{Opening}
+use Rattle.score.specs.declared.Opening.{Opening}
 
 abbrev pub SessionRight : Type 0
 SessionRight = Right whole true engraver

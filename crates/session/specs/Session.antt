@@ -1,13 +1,16 @@
 -- Lent memory as a session keeps it: what opening leaves there, and what a call leaves there and is answered. Assumes nothing: these are definitions.
 use Rattle.std.specs.Prelude.{◌≡◌, ℕ, ◌%◌, ◌≤◌, Bool, true, ◌&&◌, List, ◌++◌, length, take, drop, Some, None, Ok, Err, Option, Result, ◌==◌, nat_le, nat_lt}
+use Rattle.score.specs.declared.Answer.{Answer as AnswerType}
+use Rattle.score.specs.declared.Opening.{Opening}
+use Rattle.score.specs.declared.Refusal.{Refusal}
+use Rattle.score.specs.Meaning.{refusal_meant}
 use Rattle.score.specs.Music.{pick}
 use Rattle.score.specs.Calls.{Call, Answer, done, refused, Limits, Layout}
 use Rattle.score.specs.Promise.{Memory, Engraver, whole}
-use Rattle.wire.specs.Bytes.{answer_bytes, written}
+use Rattle.wire.specs.Bytes.{said_bytes, answer_bytes, written}
 use Rattle.wire.specs.ReadingCalls.{read_call}
 use Rattle.memory.specs.Store.{words_asked, bytes_asked, voices_in, limit_in}
 use Rattle.memory.specs.Words.{Holds, answer_at, engraver_by}
-use Rattle.session.specs.declared.Opening.{Opening}
 use Rattle.session.specs.declared.Sizes.{Sizes}
 
 -- the engraver that the session is: every call, and notes with every sign
@@ -27,8 +30,12 @@ opens o =
     nat_le o.key 14 && (nat_lt 0 o.bar && (nat_le o.bar 768 && (o.bar % 3 == 0
     && (nat_lt 0 o.voices && (nat_le o.voices 64 && nat_le o.events 65536)))))
 
+-- what a score of so many voices and at most so many events takes, and what an opening asks for
+abbrev pub sizes_for : ℕ → ℕ → Sizes
+sizes_for voices events = record { words = words_asked voices events; bytes = bytes_asked events }
+
 abbrev pub sizes_of : Opening → Option Sizes
-sizes_of o = pick (opens o) (Some (record { words = words_asked o.voices o.events; bytes = bytes_asked o.events })) None
+sizes_of o = pick (opens o) (Some (sizes_for o.voices o.events)) None
 
 -- what is answered to an opening, in so many words and bytes
 abbrev pub open_answer : Opening → ℕ → ℕ → Answer
@@ -59,6 +66,11 @@ said_to m (Err a) = a
 abbrev pub left_in : Memory → Result Call Answer → Memory
 left_in m (Ok c) = engraver.next m c
 left_in m (Err a) = record { words = m.words; bytes = written (answer_bytes a) m.bytes }
+
+-- what is told to a call that neither symbols nor sounds answer, or why it is turned away, as bytes
+abbrev pub told_bytes : Result AnswerType Refusal → List ℕ
+told_bytes (Ok a) = said_bytes a
+told_bytes (Err f) = answer_bytes (refusal_meant f)
 
 -- of words that hold a score, what a call is answered over the front of the bytes
 pub record Says (w b b' : List ℕ) (c : Call) (r : ℕ) : Type 0 where

@@ -1,154 +1,109 @@
-//! Calls on words that hold a score, answered over the front of the bytes.
-ghost use Rattle.std.specs.Prelude.{◌≡◌, ◌+◌, ◌<◌, ◌≤◌, true, ◌++◌, length, drop, MatchOption, slice_index};
-ghost use Rattle.score.specs.Calls.{most_bars, widest_span, show as show_call, heard_in as heard_call};
+//! Calls on a stored score, answered over the front of the bytes.
+ghost use Rattle.std.specs.Prelude.{◌≡◌, ◌+◌, ◌≤◌, true, ◌++◌, length, drop, slice_index};
+ghost use Rattle.score.specs.Calls.{most_bars, show as show_call, heard_in as heard_call};
 ghost use Rattle.score.specs.Meaning.{call_meant};
 ghost use Rattle.score.specs.Music.{all_fine};
-ghost use Rattle.wire.specs.Bytes.{answer_bytes};
 ghost use Rattle.memory.specs.Store.{limit_in};
-ghost use Rattle.memory.specs.Words.{Holds, events_at, next_words};
+ghost use Rattle.memory.specs.Words.{events_at, next_words};
 ghost use Rattle.engraving.specs.Shown.{shown, page_bytes};
-ghost use Rattle.rows.specs.Rows.{voice_in};
-ghost use Rattle.voices.specs.Said.{said_done, said_number};
-ghost use Rattle.session.specs.Session.{bytes_taken, Says};
+ghost use Rattle.session.specs.Session.{bytes_taken, told_bytes, Says};
 
 use engraving::voice::Voice;
-use rows::Rows;
-use score::{Call, Layout, Refusal};
+use score::{Answer, Call, MOST_BARS, Refusal, WIDEST_SPAN};
 use sounds::heard_in;
-use voices::{Span, change, cut, find_voice, how_long, put, regions_of};
-use wire::{write_done, write_number, write_refused, write_sounds_head, write_symbols_head};
+use voices::{Span, Stored, StoredMut};
+use wire::{write_answer, write_refused, write_sounds_head, write_symbols_head};
 
-/// Writes what came of a change.
-fn write_change(bytes: &mut [u8], change: Result<(), Refusal>) -> usize
+/// Writes what is told to a call, or why it is turned away.
+fn write_told(bytes: &mut [u8], told: Result<Answer, Refusal>) -> usize
     requires { 6 ≤ length bytes.old }
-    ensures wrote { bytes.new ≡ answer_bytes (said_done change) ++ drop result bytes.old }
-    ensures many { result ≡ length (answer_bytes (said_done change)) }
+    ensures wrote { bytes.new ≡ told_bytes told ++ drop result bytes.old }
+    ensures many { result ≡ length (told_bytes told) }
 {
-    match change {
-        Ok(()) => write_done(bytes),
+    match told {
+        Ok(answer) => write_answer(bytes, answer),
         Err(refusal) => write_refused(bytes, refusal),
-    }
-}
-
-/// Writes a number that was asked for.
-fn write_asked(bytes: &mut [u8], number: Result<u32, Refusal>) -> usize
-    requires { 6 ≤ length bytes.old }
-    ensures wrote { bytes.new ≡ answer_bytes (said_number number) ++ drop result bytes.old }
-    ensures many { result ≡ length (answer_bytes (said_number number)) }
-{
-    match number {
-        Ok(number) => write_number(bytes, number),
-        Err(refusal) => write_refused(bytes, refusal),
-    }
-}
-
-/// A count of bars that can be shown.
-fn few_bars(count: u32) -> Option<u32>
-    ensures { MatchOption result (most_bars < count) (λ n. (n ≡ count) × (n ≤ most_bars)) }
-{
-    if count <= 16 { Some(count) } else { None }
-}
-
-/// The rows of words of a voice that lies in a span.
-fn rows_of<'a>(words: &'a [u32], span: Span) -> Rows<'a>
-    requires { (Holds words.now) × (span.begin + span.count ≤ limit_in words.now) }
-    ensures events { voice_in result ≡ events_at words.now span.begin span.count }
-    ensures places { length result.places.now ≡ span.count }
-    ensures alterations { length result.alterations.now ≡ span.count }
-    ensures lengths { length result.lengths.now ≡ span.count }
-{
-    let count = span.count;
-    let regions = regions_of(words);
-    let places = regions.places + span.begin;
-    let alterations = regions.alterations + span.begin;
-    let lengths = regions.lengths + span.begin;
-    Rows {
-        places: &words[places..places + count],
-        alterations: &words[alterations..alterations + count],
-        lengths: &words[lengths..lengths + count],
     }
 }
 
 /// Prints bars of the voice that lies in a span.
-fn print(words: &[u32], span: Span, bar: u32, count: u32, out: &mut [u8]) -> usize
-    requires holds { (Holds words.now) × (span.begin + span.count ≤ limit_in words.now) }
-    requires fine { all_fine (events_at words.now span.begin span.count) ≡ true }
-    requires room { (count ≤ most_bars) × (page_bytes ≤ length out.old) }
-    ensures wrote { out.new ≡ shown (slice_index words.now 0) (slice_index words.now 1) (events_at words.now span.begin span.count) bar count ++ drop result out.old }
-    ensures many { result ≡ length (shown (slice_index words.now 0) (slice_index words.now 1) (events_at words.now span.begin span.count) bar count) }
+fn print(score: Stored<'_>, span: Span, bar: u32, count: u32, out: &mut [u8]) -> usize
+    requires within { span.begin + span.count ≤ limit_in score.words.now }
+    requires fine { all_fine (events_at score.words.now span.begin span.count) ≡ true }
+    requires few { count ≤ most_bars }
+    requires room { page_bytes ≤ length out.old }
+    ensures wrote { out.new ≡ shown (slice_index score.entry.words.now 0) (slice_index score.entry.words.now 1) (events_at score.entry.words.now span.begin span.count) bar count ++ drop result out.old }
+    ensures many { result ≡ length (shown (slice_index score.entry.words.now 0) (slice_index score.entry.words.now 1) (events_at score.entry.words.now span.begin span.count) bar count) }
     ensures small { result ≤ page_bytes }
 {
-    let layout = Layout {
-        key: words[0],
-        bar: words[1],
-    };
     let voice = Voice {
-        rows: rows_of(words, span),
-        layout,
+        rows: score.rows(span),
+        layout: score.layout(),
     };
     voice.engrave_page(bar, count, out)
 }
 
 /// Shows bars of a voice.
-fn show(words: &[u32], bytes: &mut [u8], voice: u32, bar: u32, count: u32) -> usize
-    requires { (Holds words.now) × (bytes_taken words.now ≤ length bytes.old) }
-    ensures { Says words.now bytes.old bytes.new (show_call voice bar count) result }
+fn show(score: Stored<'_>, bytes: &mut [u8], voice: u32, bar: u32, count: u32) -> usize
+    requires { bytes_taken score.words.now ≤ length bytes.old }
+    ensures { Says score.entry.words.now bytes.old bytes.new (show_call voice bar count) result }
 {
-    let Some(count) = few_bars(count) else {
+    let Some(count) = (count <= MOST_BARS).then_some(count) else {
         return write_refused(bytes, Refusal::OutOfRange);
     };
-    let Some(span) = find_voice(words, voice) else {
+    let Some(span) = score.find_voice(voice) else {
         return write_refused(bytes, Refusal::NoVoice(voice));
     };
-    let long = print(words, span, bar, count, &mut bytes[5..]);
+    let long = print(score, span, bar, count, &mut bytes[5..]);
     let symbols = (long / 5) as u32;
     write_symbols_head(bytes, symbols) + long
 }
 
-/// The end of a span that is not too wide.
-fn near(from: u32, to: u32) -> Option<u32>
-    ensures { MatchOption result (from + widest_span < to) (λ n. (n ≡ to) × (n ≤ from + widest_span)) }
-{
-    if to as u64 <= from as u64 + 1536 {
-        Some(to)
-    } else {
-        None
-    }
-}
-
 /// What is heard in a span.
-fn hear(words: &[u32], bytes: &mut [u8], from: u32, to: u32) -> usize
-    requires { (Holds words.now) × (bytes_taken words.now ≤ length bytes.old) }
-    ensures { Says words.now bytes.old bytes.new (heard_call from to) result }
+fn hear(score: Stored<'_>, bytes: &mut [u8], from: u32, to: u32) -> usize
+    requires { bytes_taken score.words.now ≤ length bytes.old }
+    ensures { Says score.entry.words.now bytes.old bytes.new (heard_call from to) result }
 {
-    let Some(to) = near(from, to) else {
+    let Some(to) = (to.saturating_sub(from) <= WIDEST_SPAN).then_some(to) else {
         return write_refused(bytes, Refusal::OutOfRange);
     };
-    let count = heard_in(words, from, to, &mut bytes[5..]);
+    let count = heard_in(score, from, to, &mut bytes[5..]);
     write_sounds_head(bytes, count as u32) + 8 * count
 }
 
-/// Does a call on words that hold a score, and writes its answer.
-pub fn answer(words: &mut [u32], bytes: &mut [u8], call: Call) -> usize
-    requires { (Holds words.old) × (bytes_taken words.old ≤ length bytes.old) }
-    ensures said { Says words.old bytes.old bytes.new (call_meant call) result }
-    ensures left { words.new ≡ next_words words.old (call_meant call) }
-    ensures holds { Holds words.new }
+/// Does a call on a stored score, and writes its answer.
+pub fn answer(score: &mut StoredMut<'_>, bytes: &mut [u8], call: Call) -> usize
+    requires { bytes_taken score.old.words.now ≤ length bytes.old }
+    ensures same { score.new.words.ghost_name ≡ score.old.words.ghost_name }
+    ensures said { Says score.old.words.now bytes.old bytes.new (call_meant call) result }
+    ensures left { score.new.words.now ≡ next_words score.old.words.now (call_meant call) }
 {
     match call {
         Call::Put {
             voice,
             index,
             event,
-        } => write_change(bytes, put(words, voice, index, event)),
-        Call::Cut { voice, index } => write_change(bytes, cut(words, voice, index)),
+        } => {
+            let told = score.put(voice, index, event);
+            write_told(bytes, told.map(|()| Answer::Done))
+        }
+        Call::Cut { voice, index } => {
+            let told = score.cut(voice, index);
+            write_told(bytes, told.map(|()| Answer::Done))
+        }
         Call::Change {
             voice,
             index,
             event,
-        } => write_change(bytes, change(words, voice, index, event)),
-        Call::Show { voice, bar, count } => show(words, bytes, voice, bar, count),
-        Call::HeardIn { from, to } => hear(words, bytes, from, to),
-        Call::HowLong { voice } => write_asked(bytes, how_long(words, voice)),
+        } => {
+            let told = score.change(voice, index, event);
+            write_told(bytes, told.map(|()| Answer::Done))
+        }
+        Call::Show { voice, bar, count } => show(score.read(), bytes, voice, bar, count),
+        Call::HeardIn { from, to } => hear(score.read(), bytes, from, to),
+        Call::HowLong { voice } => {
+            let told = score.read().how_long(voice);
+            write_told(bytes, told.map(|number| Answer::Number { number }))
+        }
     }
 }

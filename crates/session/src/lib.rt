@@ -1,57 +1,62 @@
 //! The session: a score is opened in lent words and bytes, and calls are answered there.
 #![tactic(auto)]
 
-ghost use Rattle.std.specs.Prelude.{◌≡◌, ◌≤◌, ◌&&◌, length, take, Some, None, MatchResult, nat_le};
+ghost use Rattle.std.specs.Prelude.{◌≡◌, ◌≤◌, ◌&&◌, length, Some, None, MatchResult, nat_le};
+ghost use Rattle.score.specs.Meaning.{call_meant};
 ghost use Rattle.score.specs.Music.{pick};
-ghost use Rattle.memory.specs.Store.{words_asked, stored};
 ghost use Rattle.voices.specs.Said.{said_done};
 ghost use Rattle.session.specs.Promises.{SessionRight, SessionKeeps, SessionEnough, WholeWay};
-ghost use Rattle.session.specs.Session.{sizes_of, open_answer, limits_for, layout_for, words_taken, bytes_taken, Ready, Opened, Unchanged, Answered};
-ghost use Rattle.memory.specs.Words.{Holds};
-
-use score::Refusal;
+ghost use Rattle.session.specs.Session.{sizes_for, sizes_of, open_answer, bytes_taken, Ready, Opened, Unchanged, Says, Answered};
+ghost use Rattle.memory.specs.Words.{Holds, next_words};
 
 mod answers;
 
 use answers::answer;
-use voices::lay_out;
+pub use score::Opening;
+use score::{Call, Layout, MOST_EVENTS, MOST_VOICES, Refusal};
+use voices::{COUNTS, LIMIT, StoredMut, VOICES, lay_out};
 use wire::{read_call, write_refused};
 
-/// What a score is opened with: its key, a bar's length in ticks, how many voices it has, and how many events there may be in all.
-#[derive(Clone, Copy)]
-pub struct Opening {
-    pub key: u32,
-    pub bar: u32,
-    pub voices: u32,
-    pub events: u32,
-}
+/// How many bytes a score asks for beside eight for each event, so that every answer fits.
+const LEAST_BYTES: usize = 262144;
 
 /// How many words and bytes a score asks for.
-#[derive(Clone, Copy)]
+#[derive(Clone, Copy, PartialEq, Eq, Debug)]
 pub struct Sizes {
     pub words: usize,
     pub bytes: usize,
 }
 
-impl Opening {
-    /// How many words and bytes are asked for, unless the opening is out of range.
-    pub fn sizes(self) -> Option<Sizes>
-        ensures { result ≡ sizes_of self }
-    {
-        if self.key > 14 || self.bar == 0 || self.bar > 768 || self.bar % 3 != 0 {
-            return None;
-        }
-        if self.voices == 0 || self.voices > 64 || self.events > 65536 {
-            return None;
-        }
-        Some(Sizes {
-            words: 4 + (2 * self.voices as usize + 3 * self.events as usize),
-            bytes: 8 * self.events as usize + 262144,
-        })
-    }
-}
-
 impl Sizes {
+    /// How many words and bytes an opening asks for, unless it is out of range.
+    pub fn of(opening: Opening) -> Option<Sizes>
+        ensures { result ≡ sizes_of opening }
+    {
+        let layout = Layout {
+            key: opening.key,
+            bar: opening.bar,
+        };
+        if !layout.is_good() {
+            return None;
+        }
+        if opening.voices == 0 || opening.voices > MOST_VOICES || opening.events > MOST_EVENTS {
+            return None;
+        }
+        Some(Sizes::taken(opening.voices, opening.events))
+    }
+
+    /// How many words and bytes a score of so many voices and at most so many events takes.
+    fn taken(voices: u32, events: u32) -> Sizes
+        ensures { result ≡ sizes_for voices events }
+    {
+        let voices = voices as usize;
+        let events = events as usize;
+        Sizes {
+            words: COUNTS + (2 * voices + 3 * events),
+            bytes: 8 * events + LEAST_BYTES,
+        }
+    }
+
     /// The sizes, if there are so many words and bytes.
     fn within(self, words: usize, bytes: usize) -> Option<Sizes>
         ensures { result ≡ pick (nat_le self.words words && nat_le self.bytes bytes) (Some self) None }
@@ -68,7 +73,7 @@ pub fn open(words: &mut [u32], bytes: &mut [u8], opening: Opening) -> Result<(),
     ensures said { said_done result ≡ open_answer opening (length words.old) (length bytes.old) }
     ensures left { MatchResult result (λ _. Opened opening words.old bytes.old words.new bytes.new) (λ _. Unchanged words.old bytes.old words.new bytes.new) }
 {
-    let Some(asked) = opening.sizes() else {
+    let Some(asked) = Sizes::of(opening) else {
         return Err(Refusal::BadOpening);
     };
     let Some(asked) = asked.within(words.len(), bytes.len()) else {
@@ -78,29 +83,21 @@ pub fn open(words: &mut [u32], bytes: &mut [u8], opening: Opening) -> Result<(),
         words: taken,
         bytes: room,
     } = asked;
-    lay_out(
-        &mut words[0..taken],
-        opening.key,
-        opening.bar,
-        opening.voices,
-        opening.events,
-    );
+    lay_out(&mut words[0..taken], opening);
     bytes[0..room].fill(0);
     Ok(())
 }
 
-/// How many of the lent words and bytes the score that lies there takes.
-fn taken(words: &[u32]) -> Sizes
-    requires { (Holds (take (words_taken words.now) words.now)) × (words_taken words.now ≤ length words.now) }
-    ensures words { result.words ≡ words_taken words.now }
-    ensures bytes { result.bytes ≡ bytes_taken words.now }
+/// Does a call on words that hold a score, and writes its answer. In `call` itself what a StoredMut leaves in a part of the words is not known when it is
+/// back: its value in the goal is any of that length (`words-1.given.0`).
+fn answer_in(words: &mut [u32], bytes: &mut [u8], call: Call) -> usize
+    requires holds { Holds words.old }
+    requires room { bytes_taken words.old ≤ length bytes.old }
+    ensures said { Says words.old bytes.old bytes.new (call_meant call) result }
+    ensures left { words.new ≡ next_words words.old (call_meant call) }
+    ensures holds { Holds words.new }
 {
-    let voices = words[2] as usize;
-    let events = words[3] as usize;
-    Sizes {
-        words: 4 + (2 * voices + 3 * events),
-        bytes: 8 * events + 262144,
-    }
+    answer(&mut StoredMut::of(words), bytes, call)
 }
 
 /// Answers a call in bytes over the front of the lent bytes, and returns how long the answer is.
@@ -111,9 +108,9 @@ pub fn call(words: &mut [u32], bytes: &mut [u8], input: &[u8]) -> usize
     let Sizes {
         words: asked,
         bytes: room,
-    } = taken(words);
+    } = Sizes::taken(words[VOICES], words[LIMIT]);
     match read_call(input) {
-        Ok(call) => answer(&mut words[0..asked], &mut bytes[0..room], call),
+        Ok(call) => answer_in(&mut words[0..asked], &mut bytes[0..room], call),
         Err(refusal) => write_refused(&mut bytes[0..room], refusal),
     }
 }

@@ -7,10 +7,10 @@ use Rattle.session.proofs.answers.print.Goals as goal
 
 pub returns : goal.returns
 returns c =
-    let w = c.args.words.now in
-    let y = c.requires.holds.0.good_layout in
+    let w = c.args.score.words.now in
+    let y = c.args.score.holds.good_layout in
     let es = events_at w c.args.span.begin c.args.span.count in
     let most : length (shown (get_or w 0 0) (get_or w 1 0) es c.args.bar c.args.count) ≤ page_bytes =
-    page_enough (get_or w 0 0) (get_or w 1 0) es c.args.bar c.args.count y.1 y.3 c.requires.fine y.2 c.requires.room.0 in
+    page_enough (get_or w 0 0) (get_or w 1 0) es c.args.bar c.args.count y.1 y.3 c.requires.fine y.2 c.requires.few in
     let many : c.engrave_page.result ≡ length (shown (get_or w 0 0) (get_or w 1 0) es c.args.bar c.args.count) = search rules in
     record { wrote = search rules; many = many; small = omega (arith, most, many) }

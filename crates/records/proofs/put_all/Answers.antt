@@ -13,7 +13,7 @@ use Rattle.records.specs.declared.Records.{Records}
 use Rattle.records.specs.declared.Record.{Record}
 use Rattle.records.proofs.Numbers.{many_records}
 use Rattle.records.proofs.Turns.{Over, few, goes_on, stops, ends}
-use Rattle.records.proofs.put_records.Goals as goal
+use Rattle.records.proofs.put_all.Goals as goal
 
 -- the numbered records are those of the numbers
 numbered : (ns : List ℕ) (s e : Enumerate Records) (source : Records) → s ≡ e → enumerate_source e ≡ source → source.numbers.now ≡ ns → enumerate_count e ≡ 0 →

@@ -1,7 +1,7 @@
 -- The records so far are put.
 use Rattle.std.proofs.Common.{◌≡◌, length}
 use Rattle.records.proofs.Turns.{Going}
-use Rattle.records.proofs.put_records.Given as goal
+use Rattle.records.proofs.put_all.Given as goal
 
 abbrev pub invariant-loop-count : goal.invariant-loop-count
 invariant-loop-count l =
