@@ -101,7 +101,7 @@ fn served(opening: Opening) -> Option<Sizes>
     if opening.voices > MOST_VOICES || opening.events > MOST_EVENTS {
         return None;
     }
-    opening.sizes()
+    Sizes::of(opening)
 }
 
 /// Opens a score in words and bytes that are as many as it asks for, and answers all lines of a text.
