@@ -8,7 +8,7 @@ use Rattle.score.specs.declared.Answer.{Answer as Said}
 use Rattle.score.specs.declared.Answer.TheVariants.{Done, Refused, Symbols, Sounds, Number}
 use Rattle.memory.specs.Store.{words_asked, bytes_asked, voices_in, limit_in}
 use Rattle.session.specs.Session.{opens, words_taken, bytes_taken, memory_in, said_to, Answered}
-use Rattle.session.specs.declared.Opening.{Opening}
+use Rattle.score.specs.declared.Opening.{Opening}
 use Rattle.session.specs.declared.Sizes.{Sizes}
 
 -- a refusal, below 0

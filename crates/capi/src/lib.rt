@@ -1,11 +1,11 @@
 //! The engraver for C: functions over lent words and bytes, each of which returns one signed number.
 #![tactic(auto)]
 
-ghost use Rattle.std.specs.Prelude.{◌≡◌, ◌<◌, true, false, length, Some, None, nat_le};
+ghost use Rattle.std.specs.Prelude.{◌≡◌, ◌<◌, true, false, length, Some, None, MatchResult, nat_le};
 ghost use Rattle.score.specs.Music.{pick};
 ghost use Rattle.score.specs.Meaning.{refusal_number, refusal_place};
 ghost use Rattle.wire.specs.Reading.{said_of};
-ghost use Rattle.session.specs.Session.{open_answer, words_taken, Ready, Opened, Unchanged};
+ghost use Rattle.session.specs.Session.{opens, sizes_of, open_answer, words_taken, Ready, Opened, Unchanged};
 ghost use Rattle.records.specs.Records.{said_next};
 ghost use Rattle.capi.specs.Signed.{turned_away, if_done, signed, signed_by, opening_of, words_number, bytes_number, header_of, words_fit, taken_by, header_fits, Replied};
 ghost use Rattle.capi.specs.Put.{ReadyWords, RecordsPut};
@@ -42,14 +42,21 @@ fn opening_of(key: u32, bar: u32, voices: u32, events: u32) -> Opening
     }
 }
 
+/// What an opening asks for, or the number of its refusal.
+fn asked(opening: Opening) -> Result<Sizes, i64>
+    ensures { MatchResult result (λ s. Some s ≡ sizes_of opening) (λ n. (opens opening ≡ false) × (n ≡ turned_away 3 1)) }
+{
+    Sizes::of(opening).ok_or(refuse(Refusal::BadOpening))
+}
+
 /// How many words an opening asks for, or a refusal.
 #[unsafe(no_mangle)]
 pub extern "C" fn engraver_words(key: u32, bar: u32, voices: u32, events: u32) -> i64
     ensures { result ≡ words_number (opening_of key bar voices events) }
 {
-    match opening_of(key, bar, voices, events).sizes() {
-        Some(sizes) => sizes.words as i64,
-        None => refuse(Refusal::BadOpening),
+    match asked(opening_of(key, bar, voices, events)) {
+        Ok(sizes) => sizes.words as i64,
+        Err(refused) => refused,
     }
 }
 
@@ -58,9 +65,9 @@ pub extern "C" fn engraver_words(key: u32, bar: u32, voices: u32, events: u32) -
 pub extern "C" fn engraver_bytes(key: u32, bar: u32, voices: u32, events: u32) -> i64
     ensures { result ≡ bytes_number (opening_of key bar voices events) }
 {
-    match opening_of(key, bar, voices, events).sizes() {
-        Some(sizes) => sizes.bytes as i64,
-        None => refuse(Refusal::BadOpening),
+    match asked(opening_of(key, bar, voices, events)) {
+        Ok(sizes) => sizes.bytes as i64,
+        Err(refused) => refused,
     }
 }
 
@@ -87,26 +94,31 @@ pub extern "C" fn engraver_open(
 fn header(words: &[u32]) -> Option<Opening>
     ensures { result ≡ pick (nat_le 4 (length words.now)) (Some (header_of words.now)) None }
 {
-    if words.len() < 4 {
+    let [key, bar, voices, events, ..] = words else {
+        return None;
+    };
+    Some(opening_of(*key, *bar, *voices, *events))
+}
+
+/// How much a score takes whose header words have, if it may be one and there are so many words.
+fn taken(words: &[u32]) -> Option<Sizes>
+    ensures { result ≡ taken_by words.now }
+{
+    let sizes = Sizes::of(header(words)?)?;
+    if sizes.words > words.len() {
         return None;
     }
-    Some(opening_of(words[0], words[1], words[2], words[3]))
+    Some(sizes)
 }
 
 /// Whether memory has a header that a score may have, and room for such a score.
 fn fits(words: &[u32], bytes: &[u8]) -> bool
     ensures { result ≡ header_fits words.now bytes.now }
 {
-    let Some(opening) = header(words) else {
-        return false;
-    };
-    let Some(asked) = opening.sizes() else {
-        return false;
-    };
-    if asked.words > words.len() {
-        return false;
+    match taken(words) {
+        Some(sizes) => sizes.bytes <= bytes.len(),
+        None => false,
     }
-    asked.bytes <= bytes.len()
 }
 
 /// The number of an answer that stands so long at the front of bytes.
@@ -141,18 +153,6 @@ pub extern "C" fn engraver_call(words: &mut [u32], bytes: &mut [u8], input: &[u8
         return refuse(Refusal::TooLittleMemory);
     }
     reply(words, bytes, input)
-}
-
-/// How much a score takes whose header words have, if it may be one and there are so many words.
-fn taken(words: &[u32]) -> Option<Sizes>
-    ensures { result ≡ taken_by words.now }
-{
-    let opening = header(words)?;
-    let sizes = opening.sizes()?;
-    if sizes.words > words.len() {
-        return None;
-    }
-    Some(sizes)
 }
 
 /// The number of what turned a record away, or 0.

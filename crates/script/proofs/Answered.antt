@@ -9,7 +9,7 @@ use Rattle.wire.specs.Bytes.{each}
 use Rattle.memory.specs.Store.{stored, voices_in, limit_in, limits_of, layout_of, score_of, Kept}
 use Rattle.memory.proofs.Back.{score_back}
 use Rattle.memory.proofs.Run.{kept_after, kept_empty}
-use Rattle.session.specs.declared.Opening.{Opening}
+use Rattle.score.specs.declared.Opening.{Opening}
 use Rattle.session.specs.Session.{limits_for, layout_for, Ready}
 use Rattle.text.specs.Lines.{call_line}
 use Rattle.score.specs.Spelling.{spelled_answer}

@@ -2,7 +2,7 @@
 use Rattle.std.proofs.Common.{◌≡◌, ℕ, List, [], ◌∷◌, map, Ok, Result, refl, ap, ◌∙◌, arith}
 use Rattle.score.specs.Calls.{Call, Answer, Limits, Layout, Score, empty_voices, answers, answer, after}
 use Rattle.score.proofs.Picks.{pick_true}
-use Rattle.session.specs.declared.Opening.{Opening}
+use Rattle.score.specs.declared.Opening.{Opening}
 use Rattle.session.specs.Session.{limits_for, layout_for}
 use Rattle.text.specs.Lines.{call_line}
 use Rattle.script.specs.Script.{answers_by, answer_lines, line_answer, after_line, line_answers}

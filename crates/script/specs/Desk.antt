@@ -2,7 +2,7 @@
 use Rattle.std.specs.Prelude.{ℕ, List, take, Result}
 use Rattle.score.specs.Calls.{Call, Answer}
 use Rattle.memory.specs.Store.{words_asked, bytes_asked, stored, limits_of, layout_of, score_of}
-use Rattle.session.specs.declared.Opening.{Opening}
+use Rattle.score.specs.declared.Opening.{Opening}
 use Rattle.session.specs.declared.Sizes.{Sizes}
 use Rattle.session.specs.Session.{words_taken}
 use Rattle.script.specs.Script.{line_answer, after_line, line_answers}

@@ -4,7 +4,7 @@ use borrow.Author.Rules.{to_z-of_z_to, sfits_of}
 use Rattle.score.specs.Calls.{Answer}
 use Rattle.score.specs.Meaning.{refusal_meant}
 use Rattle.session.specs.Session.{open_answer, Opened, Unchanged}
-use Rattle.session.specs.declared.Opening.{Opening}
+use Rattle.score.specs.declared.Opening.{Opening}
 use Rattle.capi.specs.Signed.{signed, opening_of, if_done}
 use Rattle.capi.proofs.engraver_open.Goals as goal
 
