@@ -38,6 +38,7 @@ fn symbol_of(row: Row, sign: Option<u32>, value: u32, tied: bool) -> Symbol
             value: value as u16,
         };
     }
+    // on paper, where a symbol is numbers, no sign is 0
     let sign = match sign {
         None => 0,
         Some(alteration) => alteration as u8 + 1,
@@ -60,6 +61,7 @@ impl Voice<'_> {
         ensures many { result ≡ length (shown self.entry.layout.key self.entry.layout.bar (voice_in self.entry.rows) from count) }
     {
         let Voice { rows, layout } = self;
+        // symbols are written into lent bytes, of which the first `at` are taken: there is no heap here
         let mut at = 0;
         let mut begun = 0;
         let mut more = count;

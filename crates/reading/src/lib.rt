@@ -260,6 +260,7 @@ fn play_row(bytes: &[u8], signature: u32, holds: &mut Holds, heard: &mut [Heard]
         time: 0,
         held: None,
     };
+    // notes are written into lent words, of which the first `notes` are taken: there is no heap here
     let mut notes = 0;
     'symbols: for symbol in Symbols(bytes) {
         let played = play(player, symbol, signature, holds);

@@ -99,7 +99,7 @@ pub overflow_add-begun : goal.overflow_add-begun
 overflow_add-begun c = let v = value (goal.at.overflow_add-begun c).In-Some in omega (arith, v.fits)
 
 pub symbol_of-requires-clause-value : goal.symbol_of-requires-clause-value
-symbol_of-requires-clause-value c = (value (goal.at.symbol_of-requires-clause-value c).In-Some).small
+symbol_of-requires-clause-value c = let v = value (goal.at.symbol_of-requires-clause-value c).In-Some in omega (arith, v.small)
 
 pub write-at-requires : goal.write-at-requires
 write-at-requires c = room _ _ c.values.invariant.0 (value (goal.at.write-at-requires c).In-Some).owes (omega arith)
