@@ -12,7 +12,7 @@ use engraving::voice::Voice;
 use score::{Answer, Call, MOST_BARS, Refusal, WIDEST_SPAN};
 use sounds::heard_in;
 use voices::{Span, Stored, StoredMut};
-use wire::{write_answer, write_refused, write_sounds_head, write_symbols_head};
+use wire::{write_answer, write_refused};
 
 /// Writes what is told to a call, or why it is turned away.
 fn write_told(bytes: &mut [u8], told: Result<Answer, Refusal>) -> usize
@@ -55,8 +55,8 @@ fn show(score: Stored<'_>, bytes: &mut [u8], voice: u32, bar: u32, count: u32) -
         return write_refused(bytes, Refusal::NoVoice(voice));
     };
     let long = print(score, span, bar, count, &mut bytes[5..]);
-    let symbols = (long / 5) as u32;
-    write_symbols_head(bytes, symbols) + long
+    let count = (long / 5) as u32;
+    write_answer(bytes, Answer::Symbols { count }) + long
 }
 
 /// What is heard in a span.
@@ -67,8 +67,9 @@ fn hear(score: Stored<'_>, bytes: &mut [u8], from: u32, to: u32) -> usize
     let Some(to) = (to.saturating_sub(from) <= WIDEST_SPAN).then_some(to) else {
         return write_refused(bytes, Refusal::OutOfRange);
     };
-    let count = heard_in(score, from, to, &mut bytes[5..]);
-    write_sounds_head(bytes, count as u32) + 8 * count
+    let notes = heard_in(score, from, to, &mut bytes[5..]);
+    let count = notes as u32;
+    write_answer(bytes, Answer::Sounds { count }) + 8 * notes
 }
 
 /// Does a call on a stored score, and writes its answer.

@@ -28,15 +28,6 @@ pub fn write_answer(out: &mut [u8], answer: Answer) -> usize
     }
 }
 
-/// Writes the answer that a call was done.
-pub fn write_done(out: &mut [u8]) -> usize
-    requires { 1 ≤ length out.old }
-    ensures wrote { out.new ≡ answer_bytes done ++ drop result out.old }
-    ensures many { result ≡ 1 }
-{
-    write_answer(out, Answer::Done)
-}
-
 /// Writes the answer that a call, or an opening, was turned away.
 pub fn write_refused(out: &mut [u8], refusal: Refusal) -> usize
     requires { 6 ≤ length out.old }
@@ -50,33 +41,6 @@ pub fn write_refused(out: &mut [u8], refusal: Refusal) -> usize
             place: refusal.place(),
         },
     )
-}
-
-/// Writes the answer that is a number.
-pub fn write_number(out: &mut [u8], number: u32) -> usize
-    requires { 5 ≤ length out.old }
-    ensures wrote { out.new ≡ answer_bytes (Calls.number number) ++ drop result out.old }
-    ensures many { result ≡ 5 }
-{
-    write_answer(out, Answer::Number { number })
-}
-
-/// Writes what stands before a row of so many symbols, which may be there already, behind the first five bytes.
-pub fn write_symbols_head(out: &mut [u8], count: u32) -> usize
-    requires { 5 ≤ length out.old }
-    ensures wrote { out.new ≡ symbols_head count ++ drop result out.old }
-    ensures many { result ≡ 5 }
-{
-    write_answer(out, Answer::Symbols { count })
-}
-
-/// Writes what stands before a row of so many sounds, which may be there already, behind the first five bytes.
-pub fn write_sounds_head(out: &mut [u8], count: u32) -> usize
-    requires { 5 ≤ length out.old }
-    ensures wrote { out.new ≡ sounds_head count ++ drop result out.old }
-    ensures many { result ≡ 5 }
-{
-    write_answer(out, Answer::Sounds { count })
 }
 
 /// What is said first in the answer that stands at the front of bytes: none if they are too few or its kind is unknown.

@@ -9,10 +9,7 @@ mod answers;
 mod calls;
 mod items;
 
-pub use answers::{
-    read_answer, write_answer, write_done, write_number, write_refused, write_sounds_head,
-    write_symbols_head,
-};
+pub use answers::{read_answer, write_answer, write_refused};
 pub use calls::{read_call, write_call};
 pub use items::Item;
 

@@ -44,8 +44,8 @@ returns c =
     let w = c.args.score.words.now in
     let b = c.args.bytes.now in
     let five : 5 ≤ length b = omega (arith, c.requires) in
-    let shows : Says w b c.write_symbols_head.new.out (show c.args.voice c.args.bar c.in-Some.count) _ =
-    show_says w b _ c.args.voice c.args.bar c.in-Some.count _ _ c.print-long.result c.write_symbols_head.result _
+    let shows : Says w b c.write_answer.new.out (show c.args.voice c.args.bar c.in-Some.count) _ =
+    show_says w b _ c.args.voice c.args.bar c.in-Some.count _ _ c.print-long.result c.write_answer.result _
     c.args.score.holds c.in-Some-find_voice.ensures (omega (arith, f.0, f.1))
-    five c.print-long.ensures.wrote c.print-long.ensures.many c.write_symbols_head.ensures.many c.write_symbols_head.ensures.wrote in
-    subst (λ (n : ℕ). Says w b c.write_symbols_head.new.out (show c.args.voice c.args.bar n) (c.write_symbols_head.result + c.print-long.result)) f.0 shows
+    five c.print-long.ensures.wrote c.print-long.ensures.many c.write_answer.ensures.many c.write_answer.ensures.wrote in
+    subst (λ (n : ℕ). Says w b c.write_answer.new.out (show c.args.voice c.args.bar n) (c.write_answer.result + c.print-long.result)) f.0 shows
