@@ -1,5 +1,5 @@
 -- One step along a voice: over a silence, or a note that is heard. Assumes nothing.
-use Rattle.std.proofs.Common.{◌≡◌, ℕ, ◌+◌, ◌<◌, ◌≤◌, take, drop, true, false, List, [], ◌∷◌, map, length, Option, None, Some, sym, ap, ◌∙◌, refl, arith}
+use Rattle.std.proofs.Common.{◌≡◌, ℕ, suc, ◌+◌, ◌<◌, ◌≤◌, take, drop, true, false, List, [], ◌∷◌, map, length, Option, None, Some, sym, ap, ◌∙◌, refl, arith}
 use Rattle.std.proofs.lemmas.Bool.{and_parts}
 use Rattle.std.proofs.lemmas.List.{length-drop, length-take-le}
 use Rattle.std.specs.Prelude.{◌==◌}
@@ -35,39 +35,37 @@ heard_note : (r : Row) (es : List Event) (t : ℕ) → (r.place == places) ≡ f
 unfolding heard
 heard_note r es t h = rw (pick_false (r.place == places) _ _ h) refl
 
--- the notes of which a row came, and those that are left
-module _ (n : Notes) (r : Row) (rest : Rows) (p : Playable n) (comes : rows_yet n ≡ r ∷ zipped rest.places.now rest.alterations.now rest.lengths.now) where
-  abbrev pub After : Notes
-  After = record { voice = n.voice; rows = rest; tick = n.tick + r.length }
+-- the notes that are left behind a row
+abbrev pub After : Notes → Row → Rows → Notes
+After n r rest = record { voice = n.voice; rows = rest; tick = n.tick + r.length }
 
-  first : events_yet n ≡ event_in r ∷ events_yet After
-  first = comes_first n.rows rest r comes
-
-  all : (fine (event_in r) ≡ true) × (all_fine (events_yet After) ≡ true)
-  unfolding all_fine
-  all = and_parts _ _ (sym (ap all_fine first) ∙ p.fines)
-
-  pub playable : Playable After
-  unfolding total
-  playable =
-      let t = ap total first in
-      let l = lasts_words r.place r.alteration r.length in
-      record { fines = all.1; short = omega (arith, t, l, p.short) }
-
-  pub over_silence : (r.place == places) ≡ true → heard_yet After ≡ heard_yet n
-  over_silence h = sym (ap (λ (es : List Event). heard es n.tick) first ∙ heard_silent r (events_yet After) n.tick h)
-
-  note_first : (r.place == places) ≡ false → heard_yet n ≡ heard_at r n.tick ∷ heard_yet After
-  note_first h = ap (λ (es : List Event). heard es n.tick) first ∙ heard_note r (events_yet After) n.tick h
-
+-- what a row that came says of the notes before it and behind it
+pub record Came (n : Notes) (r : Row) (rest : Rows) : Type 0 where
+  pub playable : Playable (After n r rest)
+  pub fewer : length (rows_yet n) ≡ suc (length (rows_yet (After n r rest)))
+  pub over_silence : (r.place == places) ≡ true → heard_yet (After n r rest) ≡ heard_yet n
   pub fields : (r.place == places) ≡ false → (r.place < places) × (r.alteration < alterations) × (r.length < length_end)
-  fields h = note_fields _ _ _ (ap fine (sym (pick_false (r.place == places) _ _ h)) ∙ all.0)
+  pub gives : (x : Sound) → (r.place == places) ≡ false → sound_meant x ≡ (n.voice, heard_at r n.tick) → Steps n (Some x) (After n r rest)
 
-  pub gives : (x : Sound) → (r.place == places) ≡ false → sound_meant x ≡ (n.voice, heard_at r n.tick) → Steps n (Some x) After
-  gives x h e = record {
-    same_voice = refl;
-    gives = (ap (λ (y : ℕ × Heard). y.0) e, note_first h ∙ ap (λ (y : ℕ × Heard). y.1 ∷ heard_yet After) (sym e));
-  }
+pub came : {n : Notes} {r : Row} {rest : Rows} → Playable n → rows_yet n ≡ r ∷ zipped rest.places.now rest.alterations.now rest.lengths.now → Came n r rest
+unfolding total all_fine
+came {n} {r} {rest} p comes =
+    let left : List Event = voice_in rest in
+    let first : events_yet n ≡ event_in r ∷ left = comes_first n.rows rest r comes in
+    let all = and_parts (fine (event_in r)) (all_fine left) (sym (ap all_fine first) ∙ p.fines) in
+    let t = ap total first in
+    let l = lasts_words r.place r.alteration r.length in
+    let note_first = λ (h : (r.place == places) ≡ false). ap (λ (es : List Event). heard es n.tick) first ∙ heard_note r left n.tick h in
+    record {
+      playable = record { fines = all.1; short = omega (arith, t, l, p.short) };
+      fewer = ap length comes;
+      over_silence = λ h. sym (ap (λ (es : List Event). heard es n.tick) first ∙ heard_silent r left n.tick h);
+      fields = λ h. note_fields _ _ _ (ap fine (sym (pick_false (r.place == places) _ _ h)) ∙ all.0);
+      gives = λ x h e. record {
+        same_voice = refl;
+        gives = (ap (λ (y : ℕ × Heard). y.0) e, note_first h ∙ ap (λ (y : ℕ × Heard). y.1 ∷ heard_yet (After n r rest)) (sym e));
+      };
+    }
 
 -- and where none came
 pub none_left : (n : Notes) → rows_yet n ≡ [] → heard_yet n ≡ []
