@@ -1,6 +1,6 @@
 -- The bars of what is printed, as parts of its bytes. Assumes nothing.
-use Rattle.std.proofs.Common.{◌≡◌, ℕ, zero, suc, ◌+◌, ◌-◌, ◌<◌, ◌≤◌, true, false, eqb, List, [], ◌∷◌, ◌++◌, length, get_or, take, drop, sym, refl, ap, ◌∙◌, ap₂, arith, length-drop}
-use Rattle.std.proofs.lemmas.List.{get_or-drop, drop-drop, take_rest}
+use Rattle.std.proofs.Common.{◌≡◌, ℕ, zero, suc, ◌+◌, ◌-◌, ◌<◌, ◌≤◌, true, false, eqb, List, [], ◌∷◌, ◌++◌, length, get_or, take, drop, sym, refl, ap, ◌∙◌, ap₂, arith, length-append}
+use Rattle.std.proofs.lemmas.List.{drop_at, take_rest}
 use Rattle.score.specs.Music.{pick}
 use Rattle.score.specs.Print.{Symbol, bar, head, rest, from_bar, so_many}
 use Rattle.wire.specs.Bytes.{symbol_bytes, symbols_bytes, each}
@@ -17,13 +17,12 @@ bars_more (suc n) (k ∷ (p ∷ (s ∷ []))) h l = absurd (omega arith)
 bars_more (suc n) (k ∷ (p ∷ (s ∷ (i ∷ [])))) h l = absurd (omega arith)
 bars_more (suc n) (k ∷ (p ∷ (s ∷ (i ∷ (j ∷ bs))))) h l = let e : n ≡ suc n - 1 = omega arith in ap (λ (m : ℕ). 5 + bars_take (pick (eqb k 0) m (suc n)) bs) e
 
--- the same behind `at` bytes of a page
-pub bars_on : (page : List ℕ) (at n m : ℕ) → 0 < n → at + 5 ≤ length page → m ≡ pick (eqb (get_or page at 0) 0) (n - 1) n → bars_take n (drop at page) ≡ 5 + bars_take m (drop (at + 5) page)
-bars_on page at n m h l e =
-    let z : at + 0 ≡ at = omega arith in
-    bars_more n (drop at page) h (simp length-drop (omega arith))
-    ∙ ap (λ (k : ℕ). 5 + bars_take (pick (eqb k 0) (n - 1) n) (drop 5 (drop at page))) (get_or-drop at page 0 0 ∙ ap (λ (i : ℕ). get_or page i 0) z)
-    ∙ ap₂ (λ (i : ℕ) (bs : List ℕ). 5 + bars_take i bs) (sym e) (drop-drop 5 at page)
+-- the same where the bytes of a symbol are cut off, and that symbol may be a bar line
+pub bars_on : (bs xs ys : List ℕ) (n m : ℕ) → bs ≡ xs ++ ys → length xs ≡ 5 → 0 < n → m ≡ pick (eqb (get_or xs 0 0) 0) (n - 1) n → bars_take n bs ≡ 5 + bars_take m ys
+bars_on bs [] ys n m e l h w = absurd (omega arith)
+bars_on bs (k ∷ xs) ys n m e l h w =
+    ap (bars_take n) e ∙ bars_more n ((k ∷ xs) ++ ys) h (omega (arith, length-append (k ∷ xs) ys))
+    ∙ ap₂ (λ (i : ℕ) (cs : List ℕ). 5 + bars_take i cs) (sym w) (drop_at (k ∷ xs) ys 5 l)
 
 pub bars_end : (n : ℕ) (bs : List ℕ) → length bs < 5 → bars_take n bs ≡ 0
 unfolding bars_take

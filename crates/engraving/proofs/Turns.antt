@@ -1,5 +1,5 @@
 -- What is owed, one turn of each loop later: of values, of bars and of events. Assumes nothing.
-use Rattle.std.proofs.Common.{◌≡◌, ℕ, zero, suc, ◌+◌, ◌-◌, ◌*◌, ◌%◌, ◌<◌, ◌≤◌, min, Bool, true, false, eqb, ltb, leb, List, [], ◌∷◌, map, length, sym, refl, ap, ◌∙◌, subst, ap₂, arith}
+use Rattle.std.proofs.Common.{◌≡◌, ℕ, zero, suc, ◌+◌, ◌-◌, ◌*◌, ◌%◌, ◌<◌, ◌≤◌, min, Bool, true, false, eqb, ltb, leb, List, [], ◌∷◌, length, get_or, sym, refl, ap, ◌∙◌, subst, ap₂, arith}
 use Rattle.std.proofs.lemmas.Bool.{eqb-true, eqb-false, ne_eqb, le-leb, lt-leb, and_parts}
 use Rattle.score.specs.Music.{pick, places, Event, all_fine}
 use Rattle.score.specs.Print.{Symbol, bar, key, pieces, lesser, print, now, so_many}
@@ -8,16 +8,17 @@ use Rattle.laws.specs.Owed.{one, owed, rest_from, sign_of}
 use Rattle.laws.specs.Rows.{event_of}
 use Rattle.laws.proofs.Laid.{lesser_less, lesser_both}
 use Rattle.laws.proofs.Owing.{begins_note, begins_rest, ended, owed_line, owed_value, so_many_one, so_many_line, so_many_none, so_many_end}
-use Rattle.laws.proofs.Rows.{Words, fine_words, lasts_words, place_words}
+use Rattle.laws.proofs.Rows.{rest_of, voice_at, voice_end, fine_from, Words, fine_words, lasts_words, place_words}
 use Rattle.laws.proofs.Walk.{from_bar_walks, rest_none}
 use Rattle.keys.specs.Held.{key_row, held_in, sign_needed, then_holding}
 use Rattle.keys.proofs.Holding.{held_key, needed_is, holding_is}
 use Rattle.lengths.proofs.Drawing.{value_known, values_over}
 use Rattle.rows.specs.declared.Row.{Row}
 use Rattle.rows.specs.declared.Rows.{Rows}
-use Rattle.rows.specs.Rows.{event_in, voice_in, zipped}
-use Rattle.rows.proofs.Zipped.{voice_zipped}
+use Rattle.rows.specs.Rows.{event_in}
+use Rattle.score.specs.declared.Layout.{Layout}
 use Rattle.engraving.specs.Shown.{asked_for}
+use Rattle.engraving.specs.Voice.{Ready}
 
 -- in the middle of an event: n bars of d ticks at place p, from tick o of a bar on, and of the events behind it
 unfoldable pub in_event : ℕ → ℕ → ℕ → List ℕ → ℕ → ℕ → ℕ → List Event → ℕ → List Symbol
@@ -94,14 +95,27 @@ pub no_bar : (k b p s d : ℕ) (es : List Event) (n : ℕ) → n ≡ 0 → next_
 unfolding next_bar
 no_bar k b p s d es n e = ap (so_many (owed k b 0 (key k) p s d es)) e ∙ so_many_none (owed k b 0 (key k) p s d es)
 
--- An event that is fine: its words, and those of the events behind it.
-pub record First (r : Row) (es : List Event) : Type 0 where
-  pub words : Words r.place r.alteration r.length
-  pub others : all_fine es ≡ true
+-- the events of rows from number i on
+abbrev pub events_from : Rows → ℕ → List Event
+events_from r i = rest_of r.places.now r.alterations.now r.lengths.now i
 
-pub first : (r : Row) (es : List Event) → all_fine (event_in r ∷ es) ≡ true → First r es
+abbrev pub row_at : Rows → ℕ → Row
+row_at r i = record { place = get_or r.places.now i 0; alteration = get_or r.alterations.now i 0; length = get_or r.lengths.now i 0 }
+
+-- the event whose turn it is, and those behind it
+pub record Turn (r : Rows) (i : ℕ) : Type 0 where
+  pub event : events_from r i ≡ event_in (row_at r i) ∷ events_from r (i + 1)
+  pub fine : all_fine (event_in (row_at r i) ∷ events_from r (i + 1)) ≡ true
+  pub words : Words (get_or r.places.now i 0) (get_or r.alterations.now i 0) (get_or r.lengths.now i 0)
+  pub others : all_fine (events_from r (i + 1)) ≡ true
+
+pub turn : (r : Rows) (y : Layout) (i : ℕ) → Ready r y → i < length r.lengths.now → Turn r i
 unfolding all_fine
-first r es f = let w = and_parts _ _ f in record { words = fine_words r.place r.alteration r.length w.0; others = w.1 }
+turn r y i g h =
+    let e = voice_at r.places.now r.alterations.now r.lengths.now i h g.same_places g.same_alterations in
+    let f : all_fine (event_in (row_at r i) ∷ events_from r (i + 1)) ≡ true = sym (ap all_fine e) ∙ fine_from r.places.now r.alterations.now r.lengths.now i g.fine in
+    let w = and_parts _ _ f in
+    record { event = e; fine = f; words = fine_words _ _ _ w.0; others = w.1 }
 
 -- an event is passed over
 passed_by : (k b t o : ℕ) (hs : List ℕ) (r : Row) (es : List Event) (n : ℕ) → r.length ≤ t →
@@ -159,9 +173,9 @@ begun k b o hs p a d es l w h =
 pub begin_turn : (k b t o g : ℕ) (hs ws : List ℕ) (s : ℕ) (r : Row) (es : List Event) (n : ℕ) → all_fine (event_in r ∷ es) ≡ true → g ≡ min t r.length → g ≡ 0 → o < b → length hs ≡ places →
     s ≡ sign_needed hs r.place r.alteration → ws ≡ then_holding hs r.place r.alteration →
     in_voice k b t o hs (event_in r ∷ es) n ≡ in_event k b o ws r.place s (r.length - g) es n
-unfolding in_voice in_event
+unfolding in_voice in_event all_fine
 begin_turn k b t o g hs ws s r es n f e z l h u v =
-    let w = (first r es f).words in
+    let w = fine_words r.place r.alteration r.length (and_parts _ _ f).0 in
     let y : t ≡ 0 = omega (arith, w.some) in
     let d : r.length ≡ r.length - g = omega arith in
     ap (λ (x : ℕ). so_many (rest_from k b x o (held_in k hs) (event_in r ∷ es)) n) y
@@ -177,13 +191,6 @@ end_turn k b t o hs p s d es n f l z y =
     ∙ ap (λ (ys : List Symbol). so_many ys n) (ended k b o (held_in k hs) p s es l ∙ sym (rest_none k b o (held_in k hs) es f))
     ∙ ap (λ (x : ℕ). so_many (rest_from k b x o (held_in k hs) es) n) (sym y)
 
-pub no_event : (k b t o : ℕ) (hs : List ℕ) (es : List Event) (n : ℕ) → es ≡ [] → in_voice k b t o hs es n ≡ []
+pub no_event : (k b t o : ℕ) (hs : List ℕ) (r : Rows) (i n : ℕ) → length r.lengths.now ≤ i → length r.places.now ≡ length r.lengths.now → in_voice k b t o hs (events_from r i) n ≡ []
 unfolding in_voice rest_from
-no_event k b t o hs es n e = ap (λ (es : List Event). so_many (rest_from k b t o (held_in k hs) es) n) e ∙ so_many_end n
-
--- the events of rows that are left
-pub event_next : (r r' : Rows) (w : Row) → zipped r.places.now r.alterations.now r.lengths.now ≡ w ∷ zipped r'.places.now r'.alterations.now r'.lengths.now → voice_in r ≡ event_in w ∷ voice_in r'
-event_next r r' w e = voice_zipped _ _ _ ∙ ap (map event_in) e ∙ ap (λ (es : List Event). event_in w ∷ es) (sym (voice_zipped _ _ _))
-
-pub event_none : (r : Rows) → zipped r.places.now r.alterations.now r.lengths.now ≡ [] → voice_in r ≡ []
-event_none r e = voice_zipped _ _ _ ∙ ap (map event_in) e
+no_event k b t o hs r i n h e = ap (λ (es : List Event). so_many (rest_from k b t o (held_in k hs) es) n) (voice_end r.places.now r.alterations.now r.lengths.now i h e) ∙ so_many_end n

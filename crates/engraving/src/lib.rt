@@ -59,18 +59,24 @@ impl Voice<'_> {
         ensures wrote { out.new ≡ shown self.entry.layout.key self.entry.layout.bar (voice_in self.entry.rows) from count ++ drop result out.old }
         ensures many { result ≡ length (shown self.entry.layout.key self.entry.layout.bar (voice_in self.entry.rows) from count) }
     {
-        let layout = self.layout;
+        let Voice { rows, layout } = self;
         let mut at = 0;
         let mut begun = 0;
         let mut more = count;
         let mut skip = from as u64 * layout.bar as u64;
-        'events: for row in self.rows {
-            let gone = skip.min(row.length as u64) as u32;
+        // by their number: the rows' own iterator looks for the end of all three, and takes nearly twice as long to pass over events
+        'events: for (i, length) in rows.lengths.iter().enumerate() {
+            let gone = skip.min(*length as u64) as u32;
             skip -= gone as u64;
-            let mut left = row.length - gone;
+            let mut left = *length - gone;
             if left == 0 {
                 continue 'events;
             }
+            let row = Row {
+                place: rows.places[i],
+                alteration: rows.alterations[i],
+                length: *length,
+            };
             let mut sign = if gone == 0 {
                 sign_of(holds, row.place, row.alteration)
             } else {
@@ -128,15 +134,16 @@ fn bytes_of_bars(page: &[u8], count: u32) -> usize
     ensures is { result ≡ bars_take count page.now }
     ensures within { result ≤ length page.now }
 {
-    let mut at = 0;
     let mut more = count;
-    while more > 0 && page.len() - at >= 5 {
-        if page[at] == BAR_LINE {
+    for (passed, symbol) in page.chunks_exact(5).enumerate() {
+        if more == 0 {
+            return 5 * passed;
+        }
+        if symbol[0] == BAR_LINE {
             more -= 1;
         }
-        at += 5;
     }
-    at
+    page.len() - page.len() % 5
 }
 
 /// Of what is printed, the bars from number `from` on, up to `count` of them: a part that is handed on as it stands there.

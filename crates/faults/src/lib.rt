@@ -4,9 +4,9 @@
 #[cfg(test)]
 mod tests {
     use engraving::bars_of;
-    use rows::Rows;
     use readback::read_back;
     use reading::Heard;
+    use rows::Rows;
     use score::{Layout, Symbol};
     use std::process::Abort;
     use std::test::Fail;
@@ -83,14 +83,12 @@ mod tests {
 
     // whether bytes are just these symbols
     fn are(page: &[u8], symbols: &[Symbol]) -> bool {
-        let mut rest = page;
-        for symbol in symbols {
-            if rest.len() < 5 || read_symbol(rest) != Some(*symbol) {
-                return false;
-            }
-            rest = &rest[5..];
-        }
-        rest.is_empty()
+        let bytes = page.chunks_exact(5);
+        bytes.remainder().is_empty()
+            && bytes.len() == symbols.len()
+            && bytes
+                .zip(symbols)
+                .all(|(bytes, symbol)| read_symbol(bytes) == Some(*symbol))
     }
 
     const NOTHING: Heard = Heard {

@@ -26,9 +26,7 @@ fn told(
 
 /// The bytes of the file that the first argument names, or of standard input if there is none. They are the world's: nothing is promised of them.
 pub fn read_input(rt: &HostRuntime, program: &str) -> io::Result<Vec<u8>> {
-    let mut args = env::args(rt)?;
-    let _itself = args.next();
-    match args.next() {
+    match env::args(rt)?.nth(1) {
         Some(name) => told(rt, program, name.as_str(), fs::read(rt, name.as_str())),
         None => told(rt, program, "standard input", read_stdin(rt)),
     }

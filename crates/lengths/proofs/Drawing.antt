@@ -1,7 +1,6 @@
 -- The first value that fits, and values written one after another. Assumes nothing.
-use Rattle.std.proofs.Common.{◌≡◌, ℕ, ◌+◌, ◌-◌, ◌/◌, ◌%◌, ◌<◌, ◌≤◌, Bool, true, false, cond, leb, ◌⊎◌, List, [], ◌∷◌, ◌++◌, length, take, drop, set, Some, None, Option, unwrap_or, sym, refl, ap, ◌∙◌, ap₂, inl, inr, append_assoc, append-nil, arith, length-append}
+use Rattle.std.proofs.Common.{◌≡◌, ℕ, ◌+◌, ◌-◌, ◌/◌, ◌%◌, ◌<◌, ◌≤◌, Bool, true, false, cond, leb, ◌⊎◌, List, [], ◌∷◌, ◌++◌, length, take, drop, set, Some, Option, unwrap_or, sym, refl, ap, ◌∙◌, ap₂, inl, inr, append_assoc, append-nil, arith, length-append}
 use Rattle.std.specs.List.{find}
-use Rattle.std.specs.Option.{option_map}
 use Rattle.std.proofs.lemmas.Bool.{cases_eq}
 use Rattle.std.proofs.lemmas.List.{drop-drop, take_more_set, drop-set-lt, take-append-drop, length-take-le, length-set}
 use Rattle.score.specs.Music.{pick}
@@ -31,9 +30,8 @@ largest_known n v e = go (cases_eq (largest n all_values) 0)
         record { is = e; within = omega arith; small = omega arith; three = ap (λ (x : ℕ). x % 3) e ∙ g.2; some = (λ h. omega arith) }
 
 -- so is what a search of the values finds
-pub found_known : (n v : ℕ) (o : Option ℕ) → option_map (λ x. x) o ≡ find (λ v. leb v n) all_values → v ≡ unwrap_or o 0 → Largest n v
-found_known n v None e w = largest_known n v (w ∙ ap (λ o. unwrap_or o 0) e ∙ first_fits n all_values)
-found_known n v (Some x) e w = largest_known n v (w ∙ ap (λ o. unwrap_or o 0) e ∙ first_fits n all_values)
+pub found_known : (n v : ℕ) (o : Option ℕ) → o ≡ find (λ v. leb v n) all_values → v ≡ unwrap_or o 0 → Largest n v
+found_known n v o e w = largest_known n v (w ∙ ap (λ o. unwrap_or o 0) e ∙ first_fits n all_values)
 
 -- the values of a length, where one fits and where none does
 pub next_value : (n v : ℕ) → 3 ≤ n → v ≡ largest n all_values → pieces n n ≡ v ∷ pieces (n - v) (n - v)

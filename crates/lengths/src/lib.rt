@@ -15,7 +15,7 @@ pub const VALUES: [u32; 12] = [192, 144, 96, 72, 48, 36, 24, 18, 12, 9, 6, 3];
 pub fn largest(n: u32) -> u32
     ensures { Largest n result }
 {
-    VALUES.into_iter().find(|v| *v <= n).unwrap_or(0)
+    VALUES.iter().find(|v| **v <= n).copied().unwrap_or(0)
 }
 
 /// How much of what is left of an event lies in a bar of `measure` ticks, of which `begun` are gone.

@@ -1,10 +1,12 @@
 -- A range of events in words: its first event is marked, and without that mark it is the range from the next event on. Assumes nothing.
-use Rattle.std.proofs.Common.{◌≡◌, ℕ, suc, ◌+◌, ◌-◌, ◌*◌, ◌/◌, ◌%◌, ◌^◌, ◌<◌, ◌≤◌, min, eqb, ltb, List, length, get_or, set, replicate, sym, ap, ◌∙◌, inl, inr, one-mul, pow-suc, arith, pow_pos, pow_mono}
+use Rattle.std.proofs.Common.{◌≡◌, ℕ, suc, ◌+◌, ◌-◌, ◌*◌, ◌/◌, ◌%◌, ◌^◌, ◌<◌, ◌≤◌, eqb, ltb, List, ◌++◌, length, get_or, take, drop, set, replicate, length-take, length-drop, sym, ap, ◌∙◌, inl, inr, one-mul, pow-suc, arith, pow_pos, pow_mono}
+use borrow.Rule.Slice.PartMut.{put_mid, same_len_mid}
 use lib.Bits.{bit_and, bit_xor, and_high, xor_add_and}
 use lib.Pow.{high_ones}
 use Rattle.std.proofs.lemmas.Nat.{shl-shr}
 use Rattle.std.proofs.lemmas.List.FromFn.{length-map-range_with_len, get_or-map-range_with_len, fill_by_all}
-use Rattle.std.proofs.lemmas.List.{get_or-set_same, get_or-set_other, get_or-replicate, length-set, length-replicate}
+use Rattle.std.proofs.lemmas.List.{get_or-set_same, get_or-set_other, get_or-replicate, get_or_append_left, get_or-take, get_or-drop, length-set, length-replicate}
+use Rattle.std.proofs.Math.Seq.{get_or-append_right}
 use Rattle.std.proofs.lemmas.Bool.{cases_eq, cases_lt, lt-ltb, le-ltb}
 use Rattle.marks.specs.Marked.{bit, has, low, mark_word, marked}
 
@@ -49,13 +51,40 @@ marked_empty a c m h =
 pub marked_none : (a m : ℕ) → marked a a m ≡ replicate m 0
 marked_none a m = marked_empty a a m (omega arith)
 
--- the part of a range that lies before a word gets longer by that word
-pub marked_more : (a c m w n : ℕ) → w < m → n ≡ mark_word a c w → set (marked a (min c (32 * w)) m) w n ≡ marked a (min c (32 * (w + 1))) m
-marked_more a c m w n h e =
-    let here : low c w ≡ low (min c (32 * (w + 1))) w = omega arith in
-    word_set a (min c (32 * w)) a (min c (32 * (w + 1))) m w n h (e ∙ ap (λ (i : ℕ). 2 ^ i - 2 ^ low a w) here) (λ q ne.
-    let there : low (min c (32 * w)) q ≡ low (min c (32 * (w + 1))) q = elim (cases_lt q w) [ inl l ↦ omega arith | inr l ↦ omega arith ] in
-    ap (λ (i : ℕ). 2 ^ i - 2 ^ low a q) there)
+-- the words from the first event's up to the end's have their bits, and the others none
+pub marked_part :
+    (a c m k : ℕ) (ws ys : List ℕ) → ws ≡ replicate m 0 → a ≤ c → c / 32 < m → k ≡ c / 32 + 1 - a / 32 → length ys ≡ k
+    → ((q : ℕ) → q < k → get_or ys q 0 ≡ mark_word a c (a / 32 + q)) → put_mid (a / 32) k ws ys ≡ marked a c m
+marked_part a c m k ws ys none le l count long h =
+    let wide : length ws ≡ m = ap length none ∙ length-replicate {A = ℕ} m 0 in
+    let n : ℕ = a / 32 in
+    let front : length (take n ws) ≡ n = omega (arith, length-take n ws) in
+    let zero_at = λ (q : ℕ) (b : q < m). ap (λ (l : List ℕ). get_or l q 0) none ∙ get_or-replicate {A = ℕ} m q 0 0 b in
+    all_marked a c m (put_mid n k ws ys) (same_len_mid n k ws ys (omega (arith, length-take {A = ℕ} k (drop n ws), length-drop {A = ℕ} n ws)) ∙ wide) (λ q b. elim (cases_lt q n) [
+      | inl before ↦
+          let same : low c q ≡ low a q = omega arith in
+          let nothing : 0 ≡ mark_word a c q = omega (arith, ap (λ (i : ℕ). 2 ^ i) same) in
+          get_or_append_left (take n ws) (ys ++ drop k (drop n ws)) 0 q (omega arith) ∙ get_or-take n ws q 0 before ∙ zero_at q b ∙ nothing
+      | inr from ↦
+          let here : q - length (take n ws) ≡ q - n = omega arith in
+          get_or-append_right (take n ws) (ys ++ drop k (drop n ws)) q 0 (omega arith)
+          ∙ ap (λ (i : ℕ). get_or (ys ++ drop k (drop n ws)) i 0) here
+          ∙ elim (cases_lt (q - n) k) [
+            | inl within ↦
+                let there : n + (q - n) ≡ q = omega arith in
+                get_or_append_left ys (drop k (drop n ws)) 0 (q - n) (omega arith) ∙ h (q - n) within ∙ ap (mark_word a c) there
+            | inr behind ↦
+                let over : n + (k + (q - n - length ys)) ≡ q = omega arith in
+                let same : low c q ≡ low a q = omega arith in
+                let nothing : 0 ≡ mark_word a c q = omega (arith, ap (λ (i : ℕ). 2 ^ i) same) in
+                get_or-append_right ys (drop k (drop n ws)) (q - n) 0 (omega arith)
+                ∙ get_or-drop k (drop n ws) (q - n - length ys) 0
+                ∙ get_or-drop n ws (k + (q - n - length ys)) 0
+                ∙ ap (λ (i : ℕ). get_or ws i 0) over
+                ∙ zero_at q b
+                ∙ nothing
+          ]
+    ])
 
 -- ---- its events are taken from the front
 

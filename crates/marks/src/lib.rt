@@ -3,8 +3,8 @@
 //! A range of events is marked, and then they are taken one by one from the front, until all words are 0 again.
 #![tactic(auto)]
 
-ghost use Rattle.std.specs.Prelude.{◌≡◌, ◌-◌, ◌/◌, ◌%◌, ◌^◌, ◌<◌, ◌≤◌, true, length, replicate, slice_index, slice_set};
-ghost use Rattle.marks.specs.Marked.{has, low, marked};
+ghost use Rattle.std.specs.Prelude.{◌≡◌, ◌-◌, ◌/◌, ◌%◌, ◌^◌, ◌≤◌, true, length, replicate};
+ghost use Rattle.marks.specs.Marked.{InReach, has, low, marked, unmarked};
 
 /// A word has a bit for each of so many events.
 const BITS: usize = 32;
@@ -24,17 +24,18 @@ fn bits_below(at: usize, word: usize) -> u32
 
 /// Marks the events of a range, where none is marked yet. Only the words from the first event's up to the end's are touched.
 pub fn mark(marks: &mut [u32], from: usize, to: usize)
-    requires { (marks.old ≡ replicate (length marks.old) 0) × ((from ≤ to) × (to / 32 < length marks.old)) }
+    requires { (marks.old ≡ replicate (length marks.old) 0) × ((from ≤ to) × InReach marks.old to) }
     ensures { marks.new ≡ marked from to (length marks.old) }
 {
-    for word in from / BITS..to / BITS + 1 {
-        marks[word] = bits_below(to, word) - bits_below(from, word);
+    let first = from / BITS;
+    for (i, bits) in marks[first..to / BITS + 1].iter_mut().enumerate() {
+        *bits = bits_below(to, first + i) - bits_below(from, first + i);
     }
 }
 
 /// Is this event marked?
 pub fn is_marked(marks: &[u32], at: usize) -> bool
-    requires { at / 32 < length marks.now }
+    requires { InReach marks.now at }
     ensures { result ≡ has marks.now at }
 {
     marks[at / BITS] >> (at % BITS) & 1 == 1
@@ -42,8 +43,8 @@ pub fn is_marked(marks: &[u32], at: usize) -> bool
 
 /// Takes the mark of an event away, which has one.
 pub fn unmark(marks: &mut [u32], at: usize)
-    requires { (at / 32 < length marks.old) × (has marks.old at ≡ true) }
-    ensures { marks.new ≡ slice_set marks.old (at / 32) (slice_index marks.old (at / 32) - 2 ^ (at % 32)) }
+    requires { InReach marks.old at × (has marks.old at ≡ true) }
+    ensures { marks.new ≡ unmarked marks.old at }
 {
     marks[at / BITS] ^= 1 << (at % BITS);
 }

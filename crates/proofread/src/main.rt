@@ -2,27 +2,68 @@
 //! then one event a line. It prints three lines: what is heard of the voice, what is printed, and what the reader heard.
 #![tactic(auto)]
 
-use answers::symbols_in;
-use rows::Rows;
 use input::read_input;
 use keys::tone;
 use readback::read_back;
-use reading::Heard;
-use score::{Event, Layout};
-use script::lines::next_line;
-use spelling::{spell_refusal, spell_symbols};
+use reading::{Heard, Symbols};
+use rows::{Row, Rows};
+use score::{Event, LONGEST_BAR, Layout, Refusal, SHORTEST, Symbol};
+use script::SERVED_EVENTS;
+use script::lines::Lines;
+use spelling::{spell_row, spell_symbols};
 use std::alloc::{AllocError, Global};
 use std::process::ExitCode;
-use text::{Unfit, read_event_line, read_setting};
+use text::{Unfit, read_event_line};
+use wire::Item;
 
-/// How many events a voice may have here.
-const MOST_EVENTS: usize = 1024;
+/// Why a voice is not proofread.
+#[derive(Debug, Drop)]
+enum Stop {
+    /// A line that is no setting and no event, where one was looked for.
+    Unreadable(Unfit),
+    /// A voice that is turned away.
+    Refused(Refusal),
+    NoMemory(AllocError),
+}
 
-/// The longest bar, for which there is room in any case.
-const LONGEST_BAR: u32 = 768;
+impl From<Unfit> for Stop {
+    fn from(unfit: Unfit) -> Stop {
+        Stop::Unreadable(unfit)
+    }
+}
 
-/// The place of a silence.
-const SILENT: u32 = 70;
+impl From<Refusal> for Stop {
+    fn from(refusal: Refusal) -> Stop {
+        Stop::Refused(refusal)
+    }
+}
+
+impl From<AllocError> for Stop {
+    fn from(error: AllocError) -> Stop {
+        Stop::NoMemory(error)
+    }
+}
+
+/// What a voice is proofread to: what is heard of it, the symbols that are printed, and what the reader heard of these.
+#[derive(Drop)]
+struct Proof {
+    notes: Vec<Heard>,
+    symbols: Vec<Symbol>,
+    heard: Vec<Heard>,
+}
+
+impl Proof {
+    /// Writes the three lines.
+    fn write(&self, out: &mut String) -> anyhow::Result<()> {
+        spell_row(&self.notes, ", ", out)?;
+        out.push_str("\n")?;
+        spell_symbols(&self.symbols, out)?;
+        out.push_str("\n")?;
+        spell_row(&self.heard, ", ", out)?;
+        out.push_str("\n")?;
+        Ok(())
+    }
+}
 
 /// The events of a voice, in three rows.
 #[derive(Drop)]
@@ -33,153 +74,111 @@ struct Voice {
 }
 
 impl Voice {
-    fn new(heap: Global) -> Voice {
-        Voice {
+    /// The voice that lines say, an event each.
+    fn of(heap: Global, lines: Lines) -> Result<Voice, Stop> {
+        let mut voice = Voice {
             places: Vec::new(heap),
             alterations: Vec::new(heap),
             lengths: Vec::new(heap),
+        };
+        for line in lines {
+            voice.push(read_event_line(line)?)?;
         }
+        if voice.lengths.len() > SERVED_EVENTS as usize {
+            return Err(Stop::Refused(Refusal::Full));
+        }
+        Ok(voice)
     }
 
     /// One event more.
     fn push(&mut self, event: Event) -> Result<(), AllocError> {
-        let (place, alteration, length) = match event {
-            Event::Note {
-                place,
-                alteration,
-                length,
-            } => (place as u32, alteration as u32, length as u32),
-            Event::Silence { length } => (SILENT, 0, length as u32),
-        };
+        let Row {
+            place,
+            alteration,
+            length,
+        } = Row::from(event);
         self.places.push(place)?;
         self.alterations.push(alteration)?;
-        self.lengths.push(length)?;
-        Ok(())
+        self.lengths.push(length)
     }
-}
 
-/// Answers by a refusal.
-fn refuse(number: u8, place: usize, out: &mut String) -> anyhow::Result<()> {
-    spell_refusal(number, place, out)?;
-    out.push_str("\n")?;
-    Ok(())
-}
-
-/// Writes notes as `start length tone`, with a comma and a space between each two.
-fn spell_heard(notes: &[Heard], out: &mut String) -> anyhow::Result<()> {
-    for (i, note) in notes.iter().enumerate() {
-        if i > 0 {
-            out.push_str(", ")?;
+    fn rows(&self) -> Rows {
+        Rows {
+            places: &self.places,
+            alterations: &self.alterations,
+            lengths: &self.lengths,
         }
-        let start = note.start;
-        let length = note.length;
-        let tone = note.tone;
-        write!(out, "{start} {length} {tone}")?;
     }
-    out.push_str("\n")?;
-    Ok(())
-}
 
-/// What is heard of a voice, event by event.
-fn hear(heap: Global, voice: &Voice) -> anyhow::Result<Vec<Heard>> {
-    let mut notes = Vec::new(heap);
-    let mut start = 0u64;
-    for ((place, alteration), length) in voice
-        .places
-        .iter()
-        .zip(voice.alterations.iter())
-        .zip(voice.lengths.iter())
-    {
-        if *place != SILENT {
-            notes.push(Heard {
-                start,
-                length: *length as u64,
-                tone: tone(*place, *alteration),
-            })?;
+    /// How long it is.
+    fn ticks(&self) -> u64 {
+        self.rows()
+            .fold(0, |ticks: u64, row| ticks.saturating_add(row.length as u64))
+    }
+
+    /// What is heard of it, event by event.
+    fn notes(&self, heap: Global) -> Result<Vec<Heard>, AllocError> {
+        let mut notes = Vec::new(heap);
+        let mut start = 0u64;
+        for row in self.rows() {
+            let length = row.length as u64;
+            if !row.is_silent() {
+                notes.push(Heard {
+                    start,
+                    length,
+                    tone: tone(row.place, row.alteration),
+                })?;
+            }
+            start = start.saturating_add(length);
         }
-        start = start.saturating_add(*length as u64);
+        Ok(notes)
     }
-    Ok(notes)
+
+    /// Prints it and reads what was printed.
+    fn proof(&self, heap: Global, layout: Layout) -> Result<Proof, Stop> {
+        let mut page = vec![in heap; 0; room(self.ticks(), layout.bar)]?;
+        let none = Heard {
+            start: 0,
+            length: 0,
+            tone: 0,
+        };
+        let mut heard = vec![in heap; none; self.lengths.len()]?;
+        let back = read_back(self.rows(), layout, &mut page, &mut heard)?;
+        page.truncate(back.bytes);
+        heard.truncate(back.notes);
+        Ok(Proof {
+            notes: self.notes(heap)?,
+            symbols: Symbols(&page).collect(heap)?,
+            heard,
+        })
+    }
 }
 
-/// Room for what is printed of so many ticks, in bytes.
+/// Room for what is printed of so many ticks, in bytes. A bar that no voice has counts as one that there is.
 fn room(ticks: u64, bar: u32) -> usize {
     let bar = bar.clamp(1, LONGEST_BAR) as u64;
     let bars = (ticks / bar).saturating_add(1);
-    bars.saturating_mul(bar / 3 + 1).saturating_mul(5) as usize
-}
-
-/// Prints a voice, reads what was printed, and writes the three lines; or a refusal.
-fn print(heap: Global, voice: &Voice, layout: Layout, out: &mut String) -> anyhow::Result<()> {
-    let notes = hear(heap, voice)?;
-    let mut ticks = 0u64;
-    for length in &voice.lengths {
-        ticks = ticks.saturating_add(*length as u64);
-    }
-    let mut page = vec![in heap; 0; room(ticks, layout.bar)]?;
-    let none = Heard {
-        start: 0,
-        length: 0,
-        tone: 0,
-    };
-    let mut heard = vec![in heap; none; voice.lengths.len()]?;
-    let rows = Rows {
-        places: &voice.places,
-        alterations: &voice.alterations,
-        lengths: &voice.lengths,
-    };
-    match read_back(rows, layout, &mut page, &mut heard) {
-        Ok(back) => {
-            spell_heard(&notes, out)?;
-            spell_page(heap, page.get(0..back.bytes).unwrap_or(&[]), out)?;
-            spell_heard(heard.get(0..back.notes).unwrap_or(&[]), out)
-        }
-        Err(refusal) => refuse(refusal.number(), refusal.place() as usize, out),
-    }
-}
-
-/// Writes what is printed on a page.
-fn spell_page(heap: Global, page: &[u8], out: &mut String) -> anyhow::Result<()> {
-    let count = (page.len() / 5).min(u32::MAX as usize) as u32;
-    if let Some(symbols) = symbols_in(heap, page, count)? {
-        spell_symbols(&symbols, out)?;
-    }
-    out.push_str("\n")?;
-    Ok(())
-}
-
-/// The next line that says something and what is behind it, or nothing.
-fn line_of(text: &[u8]) -> (&[u8], &[u8]) {
-    match next_line(text) {
-        Some(found) => found,
-        None => (&[], &[]),
-    }
+    let symbols = bars.saturating_mul(bar / SHORTEST as u64 + 1);
+    symbols.saturating_mul(Symbol::SIZE as u64) as usize
 }
 
 /// Proofreads the voice that a text says.
+fn proof_of(heap: Global, text: &[u8]) -> Result<Proof, Stop> {
+    let mut lines = Lines::of(text);
+    let key = lines.setting("key")?;
+    let bar = lines.setting("bar")?;
+    Voice::of(heap, lines)?.proof(heap, Layout { key, bar })
+}
+
+/// Writes what a text is proofread to, or why it is not.
 fn proofread(heap: Global, text: &[u8], out: &mut String) -> anyhow::Result<()> {
-    let (line, rest) = line_of(text);
-    let key = match read_setting(line, "key") {
-        Ok(key) => key,
-        Err(Unfit { at }) => return refuse(1, at, out),
-    };
-    let (line, mut rest) = line_of(rest);
-    let bar = match read_setting(line, "bar") {
-        Ok(bar) => bar,
-        Err(Unfit { at }) => return refuse(1, at, out),
-    };
-    let mut voice = Voice::new(heap);
-    while let Some((line, more)) = next_line(rest) {
-        match read_event_line(line) {
-            Ok(event) => voice.push(event)?,
-            Err(Unfit { at }) => return refuse(1, at, out),
-        }
-        rest = more;
+    match proof_of(heap, text) {
+        Ok(proof) => proof.write(out)?,
+        Err(Stop::Unreadable(unfit)) => writeln!(out, "{unfit}")?,
+        Err(Stop::Refused(refusal)) => writeln!(out, "{refusal}")?,
+        Err(Stop::NoMemory(error)) => return Err(error.into()),
     }
-    if voice.lengths.len() > MOST_EVENTS {
-        return refuse(6, 0, out);
-    }
-    print(heap, &voice, Layout { key, bar }, out)
+    Ok(())
 }
 
 fn main(rt: HostRuntime) -> anyhow::Result<ExitCode> {

@@ -1,34 +1,40 @@
 -- The events of a voice, one after the other: whether each can be written, and how long they are. Assumes nothing.
-use Rattle.std.proofs.Common.{◌≡◌, ℕ, ◌+◌, ◌<◌, ◌≤◌, Bool, true, false, ◌&&◌, List, length, get_or, Ok, Err, sym, ap, ◌∙◌, arith}
+use Rattle.std.proofs.Common.{◌≡◌, ℕ, ◌+◌, ◌<◌, ◌≤◌, Bool, true, false, ◌&&◌, List, [], ◌∷◌, map, length, Ok, Err, sym, ap, ◌∙◌, arith}
 use Rattle.std.proofs.lemmas.Bool.{eq-eqb, lt-ltb, le-ltb, and_right, and_from}
 use Rattle.score.specs.declared.Refusal.TheVariants.{OutOfRange, Full}
 use Rattle.score.specs.Calls.{ticks_end}
-use Rattle.score.specs.Music.{fine, all_fine, total}
+use Rattle.score.specs.Music.{Event, fine, all_fine, total}
 use Rattle.score.proofs.Picks.{pick_true, pick_false}
-use Rattle.laws.specs.Rows.{event_of}
-use Rattle.laws.proofs.Rows.{rest_of, voice_at, voice_end, lasts_words}
+use Rattle.laws.proofs.Rows.{lasts_words}
+use Rattle.rows.specs.declared.Row.{Row}
 use Rattle.rows.specs.declared.Rows.{Rows}
-use Rattle.rows.specs.Rows.{voice_in}
+use Rattle.rows.specs.Rows.{event_in, voice_in, zipped}
+use Rattle.rows.proofs.Zipped.{voice_zipped}
 use Rattle.readback.specs.Checked.{writable, measured}
 
--- one event more is fine, or is not; and the ticks up to it
-pub fine_more : (ps xs ds : List ℕ) (i : ℕ) → i < length ds → length ps ≡ length ds → length xs ≡ length ds → true ≡ fine (event_of (get_or ps i 0) (get_or xs i 0) (get_or ds i 0)) →
-    all_fine (rest_of ps xs ds (i + 1)) ≡ all_fine (rest_of ps xs ds i)
-unfolding all_fine
-fine_more ps xs ds i h e f g = sym (ap all_fine (voice_at ps xs ds i h e f) ∙ ap (λ (t : Bool). t && all_fine (rest_of ps xs ds (i + 1))) (sym g))
+abbrev pub rows_in : Rows → List Row
+rows_in r = zipped r.places.now r.alterations.now r.lengths.now
 
-pub fine_not : (ps xs ds : List ℕ) (i : ℕ) → i < length ds → length ps ≡ length ds → length xs ≡ length ds → false ≡ fine (event_of (get_or ps i 0) (get_or xs i 0) (get_or ds i 0)) →
-    all_fine (rest_of ps xs ds i) ≡ false
-unfolding all_fine
-fine_not ps xs ds i h e f g = ap all_fine (voice_at ps xs ds i h e f) ∙ ap (λ (t : Bool). t && all_fine (rest_of ps xs ds (i + 1))) (sym g)
+-- one event, and those behind it
+pub next_event : (r r' : Rows) (w : Row) → rows_in r ≡ w ∷ rows_in r' → voice_in r ≡ event_in w ∷ voice_in r'
+next_event r r' w e = voice_zipped _ _ _ ∙ ap (map event_in) e ∙ ap (λ (es : List Event). event_in w ∷ es) (sym (voice_zipped _ _ _))
 
-pub total_more : (ps xs ds : List ℕ) (i : ℕ) → i < length ds → length ps ≡ length ds → length xs ≡ length ds → total (rest_of ps xs ds i) ≡ get_or ds i 0 + total (rest_of ps xs ds (i + 1))
+-- it is fine, or is not; and the ticks up to it
+pub fine_more : (r r' : Rows) (w : Row) → rows_in r ≡ w ∷ rows_in r' → true ≡ fine (event_in w) → all_fine (voice_in r') ≡ all_fine (voice_in r)
+unfolding all_fine
+fine_more r r' w e g = sym (ap all_fine (next_event r r' w e) ∙ ap (λ (t : Bool). t && all_fine (voice_in r')) (sym g))
+
+pub fine_not : (r r' : Rows) (w : Row) → rows_in r ≡ w ∷ rows_in r' → false ≡ fine (event_in w) → all_fine (voice_in r) ≡ false
+unfolding all_fine
+fine_not r r' w e g = ap all_fine (next_event r r' w e) ∙ ap (λ (t : Bool). t && all_fine (voice_in r')) (sym g)
+
+pub total_more : (r r' : Rows) (w : Row) → rows_in r ≡ w ∷ rows_in r' → total (voice_in r) ≡ w.length + total (voice_in r')
 unfolding total
-total_more ps xs ds i h e f = ap total (voice_at ps xs ds i h e f) ∙ ap (λ (d : ℕ). d + total (rest_of ps xs ds (i + 1))) (lasts_words (get_or ps i 0) (get_or xs i 0) (get_or ds i 0))
+total_more r r' w e = ap total (next_event r r' w e) ∙ ap (λ d. d + total (voice_in r')) (lasts_words w.place w.alteration w.length)
 
-pub none_left : (ps xs ds : List ℕ) (i : ℕ) → length ds ≤ i → length ps ≡ length ds → (all_fine (rest_of ps xs ds i) ≡ true) × (total (rest_of ps xs ds i) ≡ 0)
+pub none_left : (r : Rows) → rows_in r ≡ [] → (all_fine (voice_in r) ≡ true) × (total (voice_in r) ≡ 0)
 unfolding all_fine total
-none_left ps xs ds i h e = (ap all_fine (voice_end ps xs ds i h e), ap total (voice_end ps xs ds i h e))
+none_left r e = let v : voice_in r ≡ [] = voice_zipped _ _ _ ∙ ap (map event_in) e in (ap all_fine v, ap total v)
 
 -- so a voice is measured
 pub not_writable : (r : Rows) → all_fine (voice_in r) ≡ false → Err OutOfRange ≡ measured r

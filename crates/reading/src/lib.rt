@@ -1,12 +1,13 @@
 //! The reader: symbols and a key in, notes out. It knows nothing of voices.
 #![tactic(auto)]
 
-ghost use Rattle.std.specs.Prelude.{◌≡◌, ◌+◌, ◌*◌, ◌^◌, ◌<◌, ◌≤◌, true, [], ◌∷◌, ◌++◌, map, length, take, drop};
+ghost use Rattle.std.specs.Prelude.{◌≡◌, Some, ◌+◌, ◌*◌, ◌^◌, ◌<◌, ◌≤◌, true, [], ◌∷◌, ◌++◌, map, length, take, drop};
 ghost use Rattle.std.specs.Iterator.{YieldsFirstBy, item_count};
 ghost use Rattle.std.specs.Option.{option_map};
 ghost use Rattle.score.specs.Meaning.{symbol_meant};
 ghost use Rattle.score.specs.Music.{pick, places};
 ghost use Rattle.score.specs.Print.{nothing, let_go, goes_on, longer as made_longer, read_from};
+ghost use Rattle.score.specs.Spelling.{spelled_heard};
 ghost use Rattle.wire.specs.Reading.{symbol_of};
 ghost use Rattle.reading.specs.Few.{FewNotes};
 ghost use Rattle.reading.specs.Keeps.{held_meant};
@@ -16,6 +17,7 @@ ghost use Rattle.reading.specs.Told.{state, heard_meant, notes, listed};
 
 use keys::{Holds, begin_bar, tone};
 use score::{ALTERATIONS, PLACES, Symbol};
+use std::fmt;
 use wire::read_symbol;
 
 pub mod player;
@@ -28,6 +30,18 @@ pub struct Heard {
     pub start: u64,
     pub length: u64,
     pub tone: u64,
+}
+
+/// As `start length tone`.
+impl fmt::Display for Heard {
+    ghost output = { λ h. Some (spelled_heard (heard_meant h)) };
+
+    fn fmt<W: fmt::Write>(&self, f: &mut fmt::Formatter<W>) -> fmt::Result {
+        let start = self.start;
+        let length = self.length;
+        let tone = self.tone;
+        write!(f, "{start} {length} {tone}")
+    }
 }
 
 /// A player one symbol later, and the notes that have ended by then: what was held, and what the symbol itself began.

@@ -1,16 +1,16 @@
 -- Lines that are answered one after the other by a session. Assumes nothing.
-use Rattle.std.proofs.Common.{◌≡◌, ℕ, Bool, true, false, List, [], ◌∷◌, ◌++◌, Some, None, Ok, Err, Result, sym, refl, ap, ◌∙◌, append_assoc, arith}
+use Rattle.std.proofs.Common.{◌≡◌, ℕ, Bool, true, false, List, [], ◌∷◌, ◌++◌, Ok, Err, Result, sym, refl, ap, ◌∙◌, append_assoc, arith}
 use Rattle.std.proofs.lemmas.List.{append-nil}
 use Rattle.score.specs.Music.{pick}
-use Rattle.score.specs.Calls.{Call, Answer, Limits, Layout, Score, empty_voices}
-use Rattle.score.specs.Promise.{Memory, whole}
-use Rattle.score.proofs.Picks.{pick_true}
+use Rattle.score.specs.Calls.{Call, Answer, refused, Limits, Layout, Score, empty_voices}
+use Rattle.score.specs.Promise.{whole}
+use Rattle.score.proofs.Picks.{pick_true, pick_false}
 use Rattle.wire.specs.Bytes.{each}
 use Rattle.memory.specs.Store.{stored, voices_in, limit_in, limits_of, layout_of, score_of, Kept}
 use Rattle.memory.proofs.Back.{score_back}
 use Rattle.memory.proofs.Run.{kept_after, kept_empty}
 use Rattle.score.specs.declared.Opening.{Opening}
-use Rattle.session.specs.Session.{limits_for, layout_for, Ready, Opened}
+use Rattle.session.specs.Session.{limits_for, layout_for, Ready}
 use Rattle.text.specs.Lines.{call_line}
 use Rattle.score.specs.Spelling.{spelled_answer}
 use Rattle.script.specs.Lines.{line_end}
@@ -37,11 +37,10 @@ answers_stored w v n y s ls k e =
 
 -- lines are answered from an opening on
 pub opened_so :
-    (o : Opening) (w b w' b' : List ℕ) (ls : List (List ℕ)) → serves o ≡ true → Opened o w b w' b' → answer_lines (line_answers_in w' ls) ≡ answer_lines (opened_answers o ls)
-opened_so o w b w' b' ls h op =
-    ap answer_lines
-    (answers_stored w' o.voices o.events (layout_for o) (empty_voices o.voices) ls (kept_empty (limits_for o)) (ap (λ (m : Memory). m.words) op.memory)
-    ∙ sym (pick_true _ _ _ h))
+    (o : Opening) (w : List ℕ) (ls : List (List ℕ)) → serves o ≡ true → score_words w ≡ stored (limits_for o) (layout_for o) (empty_voices o.voices)
+    → answer_lines (line_answers_in w ls) ≡ answer_lines (opened_answers o ls)
+opened_so o w ls h e =
+    ap answer_lines (answers_stored w o.voices o.events (layout_for o) (empty_voices o.voices) ls (kept_empty (limits_for o)) e ∙ sym (pick_true _ _ _ h))
 
 -- one line more, and none left
 pub line_more :
@@ -65,12 +64,18 @@ unfolding line_answers each
 lines_over w out whole ls e inv = sym (append-nil out) ∙ ap (λ (xs : List (List ℕ)). out ++ answer_lines (line_answers_in w xs)) (sym e) ∙ inv
 
 -- a refusal alone
-pub one_line : (out spelt out' : List ℕ) (a : Answer) → spelt ≡ out ++ spelled_answer a → out' ≡ spelt ++ (line_end ∷ []) → out' ≡ out ++ answer_lines (a ∷ [])
+pub one_line : (out new : List ℕ) (a : Answer) → new ≡ out ++ (spelled_answer a ++ (line_end ∷ [])) → new ≡ out ++ answer_lines (a ∷ [])
 unfolding each
-one_line out spelt out' a es eo =
-    eo ∙ ap (λ (o : List ℕ). o ++ (line_end ∷ [])) es ∙ append_assoc out (spelled_answer a) (line_end ∷ []) ∙ ap (λ (x : List ℕ). out ++ x) (sym (append-nil (answer_line a)))
+one_line out new a e = e ∙ ap (λ (x : List ℕ). out ++ x) (sym (append-nil (answer_line a)))
 
--- an opening that is served, and the sizes that it asks for
-pub picked : {A : Type 0} (b : Bool) (x y : A) → Some x ≡ pick b (Some y) None → (b ≡ true) × (x ≡ y)
-picked true x y e = (refl, cc)
-picked false x y e = absurd (let z : ◌≡◌ {A = ℕ} 0 1 = cc in omega arith)
+-- what is served, and what is not
+pub picked_ok : {A E : Type 0} (b : Bool) (x y : A) (e : E) → Ok x ≡ pick b (Ok y) (Err e) → b ≡ true
+picked_ok true x y e h = refl
+picked_ok false x y e h = absurd (let z : ◌≡◌ {A = ℕ} 0 1 = cc in omega arith)
+
+pub picked_err : {A E : Type 0} (b : Bool) (y : A) (d e : E) → Err d ≡ pick b (Ok y) (Err e) → (b ≡ false) × (d ≡ e)
+picked_err true y d e h = absurd (let z : ◌≡◌ {A = ℕ} 0 1 = cc in omega arith)
+picked_err false y d e h = (refl, cc)
+
+pub unserved : (o : Opening) (ls : List (List ℕ)) → serves o ≡ false → refused 3 1 ∷ [] ≡ opened_answers o ls
+unserved o ls h = sym (pick_false _ _ _ h)

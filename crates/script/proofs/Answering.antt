@@ -1,5 +1,5 @@
 -- A call is written as bytes, and what a session answers to these bytes is what is answered to the call. Assumes nothing.
-use Rattle.std.proofs.Common.{◌≡◌, ℕ, ◌-◌, ◌≤◌, List, [], ◌++◌, length, take, Some, Ok, Result, sym, ap, ◌∙◌, arith}
+use Rattle.std.proofs.Common.{◌≡◌, ℕ, ◌≤◌, List, [], ◌++◌, length, take, drop, Some, Ok, Result, sym, ap, ◌∙◌, arith}
 use Rattle.std.proofs.lemmas.List.{append-nil, length-take, take_at}
 use Rattle.score.specs.Calls.{Call, Answer}
 use Rattle.score.specs.Promise.{Memory}
@@ -12,12 +12,11 @@ use Rattle.memory.specs.Words.{answer_by, words_by}
 use Rattle.session.specs.Session.{memory_in, said_to, left_in, Answered}
 use Rattle.script.specs.Desk.{score_words, line_answer_in, words_after}
 
-module _ (w b row rest w' b' : List ℕ) (c : Call) (n r : ℕ) (wrote : row ≡ call_bytes c ++ rest) (many : n ≡ length (call_bytes c)) (a : Answered w b (take (n - 0) row) w' b' r) where
+module _ (w b row rest w' b' : List ℕ) (c : Call) (n r : ℕ) (wrote : row ≡ call_bytes c ++ rest) (many : n ≡ length (call_bytes c)) (a : Answered w b (take n row) w' b' r) where
   -- the session reads the call
-  asked : read_call (take (n - 0) row) ≡ Ok c
+  asked : read_call (take n row) ≡ Ok c
   asked =
-      let z : length (call_bytes c) ≡ n - 0 = omega arith in
-      ap (λ (x : List ℕ). read_call (take (n - 0) x)) wrote ∙ ap read_call (take_at (call_bytes c) rest (n - 0) z) ∙ (calls_back c).0
+      ap (λ (x : List ℕ). read_call (take n x)) wrote ∙ ap read_call (take_at (call_bytes c) rest n (sym many)) ∙ (calls_back c).0
 
   answered : take r b' ≡ answer_bytes (line_answer_in w (Ok c))
   unfolding answer_by
@@ -29,11 +28,13 @@ module _ (w b row rest w' b' : List ℕ) (c : Call) (n r : ℕ) (wrote : row ≡
       let e : length (take r b') ≡ r = ap length a.answer ∙ sym a.long in
       omega (arith, length-take r b')
 
-  pub told : answer_of (take (r - 0) b') ≡ Some (line_answer_in w (Ok c))
-  told =
-      let z : r - 0 ≡ r = omega arith in
-      ap (λ m. answer_of (take m b')) z ∙ ap answer_of (answered ∙ sym (append-nil _)) ∙ (answers_back (line_answer_in w (Ok c))).0 []
+  pub told : answer_of (take r b') ≡ Some (line_answer_in w (Ok c))
+  told = ap answer_of (answered ∙ sym (append-nil _)) ∙ (answers_back (line_answer_in w (Ok c))).0 []
 
   pub left : score_words w' ≡ words_after w (Ok c)
   unfolding words_by
   left = ap (λ (m : Memory). m.words) a.memory ∙ ap (λ (q : Result Call Answer). (left_in (memory_in w b) q).words) asked
+
+-- what a vector has after all of it was lent
+pub back : (xs ys : List ℕ) (n : ℕ) → length xs ≡ n → take n (xs ++ drop (length xs) ys) ≡ xs
+back xs ys n e = take_at xs (drop (length xs) ys) n e

@@ -1,7 +1,11 @@
 -- Lines cut from the front of a text, one by one. Assumes nothing.
-use Rattle.std.proofs.Common.{◌≡◌, ℕ, zero, suc, ◌+◌, ◌-◌, ◌<◌, ◌≤◌, true, false, List, [], ◌∷◌, length, get_or, take, drop, sym, refl, ap, ◌∙◌, add-one, arith}
+use Rattle.std.proofs.Common.{◌≡◌, ℕ, zero, suc, ◌+◌, ◌-◌, ◌<◌, ◌≤◌, true, false, List, [], ◌∷◌, length, get_or, take, drop, position, Some, None, ◌==◌, sym, refl, ap, ◌∙◌, add-one, arith}
 use Rattle.std.proofs.lemmas.List.{take_rest}
-use Rattle.std.proofs.lemmas.Bool.{eq-eqb, ne_eqb}
+use Rattle.std.proofs.lemmas.Bool.{eq-eqb, ne_eqb, eqb-true, eqb-false}
+use Rattle.std.proofs.lemmas.List.Quantifiers.{position-Some}
+use Rattle.std.proofs.lemmas.List.Sums.{fails_before_first}
+use Rattle.std.proofs.lemmas.Grind.{common_steps}
+use Rattle.std.specs.List.{position_or_len}
 use Rattle.score.proofs.Picks.{pick_true, pick_false}
 use Rattle.script.specs.Lines.{line_end, onto, all_lines, says, saying, lines}
 
@@ -27,23 +31,19 @@ line_last (x ∷ (y ∷ ys)) h free =
 
 -- the same as the code has it
 pub cut_at :
-    (xs : List ℕ) (i : ℕ) → i < length xs → NoEnd xs i → get_or xs i 0 ≡ line_end
-    → all_lines xs ≡ take (i - 0) xs ∷ all_lines (take (length xs - (i + 1)) (drop (i + 1) xs))
-cut_at xs i h free e =
-    let z : i - 0 ≡ i = omega arith in
-    line_at xs i h free e
-    ∙ ap (λ n. take n xs ∷ all_lines (drop (suc i) xs)) (sym z)
-    ∙ ap (λ n. take (i - 0) xs ∷ all_lines (drop n xs)) (sym (add-one i))
-    ∙ ap (λ (r : List ℕ). take (i - 0) xs ∷ all_lines r) (sym (take_rest xs (i + 1)))
+    (xs : List ℕ) (i : ℕ) → Some i ≡ position (λ x. x == line_end) xs
+    → all_lines xs ≡ take i xs ∷ all_lines (take (length xs - (i + 1)) (drop (i + 1) xs))
+cut_at xs i e =
+    let f = position-Some (λ x. x == line_end) xs i 0 (sym e) in
+    line_at xs i f.0 (λ k l. eqb-false _ _ (f.2 k l)) (eqb-true _ _ f.1)
+    ∙ ap (λ n. take i xs ∷ all_lines (drop n xs)) (sym (add-one i))
+    ∙ ap (λ (r : List ℕ). take i xs ∷ all_lines r) (sym (take_rest xs (i + 1)))
 
-pub cut_last :
-    (xs : List ℕ) (i : ℕ) → 0 < length xs → length xs ≤ i → NoEnd xs i
-    → all_lines xs ≡ xs ∷ all_lines (take (length xs - length xs) (drop (length xs) xs))
+pub cut_last : (xs : List ℕ) → 0 < length xs → None ≡ position (λ x. x == line_end) xs → all_lines xs ≡ xs ∷ all_lines []
 unfolding all_lines
-cut_last xs i h l free =
-    let z : length xs - length xs ≡ 0 = omega arith in
-    line_last xs h (λ k m. free k (omega arith))
-    ∙ ap (λ n. xs ∷ all_lines (take n (drop (length xs) xs))) (sym z)
+cut_last xs h e =
+    let far : length xs ≤ position_or_len (λ x. x == line_end) xs = grind (arith, common_steps) in
+    line_last xs h (λ k l. eqb-false _ _ (fails_before_first (λ x. x == line_end) xs k 0 (omega arith)))
 
 -- a line that says something is the next, and another is passed over
 pub line_said : (xs line more : List ℕ) → all_lines xs ≡ line ∷ all_lines more → says line ≡ true → lines xs ≡ line ∷ lines more

@@ -1,6 +1,7 @@
 -- The lines of a text, and those of them that say something. Assumes nothing: these are definitions.
 use Rattle.std.specs.Prelude.{ℕ, Bool, false, not, List, [], ◌∷◌, ◌==◌}
 use Rattle.score.specs.Music.{pick}
+use Rattle.script.specs.declared.lines.Lines.{Lines}
 
 -- the byte that ends a line, and the one that a comment begins with
 abbrev pub line_end : ℕ
@@ -30,3 +31,7 @@ saying (l ∷ ls) = pick (says l) (l ∷ saying ls) (saying ls)
 
 abbrev pub lines : List ℕ → List (List ℕ)
 lines text = saying (all_lines text)
+
+-- the lines that the code has still to give
+abbrev pub lines_in : Lines → List (List ℕ)
+lines_in s = lines s.text.now

@@ -1,6 +1,5 @@
 -- What answers a script: a text of lines, of which the first four open a score and each that follows is a call. Assumes nothing: these are definitions.
 use Rattle.std.specs.Prelude.{ℕ, Bool, ◌&&◌, List, [], ◌∷◌, ◌++◌, drop, Ok, Err, codes, Result, nat_le, slice_index_or}
-use Rattle.std.specs.Borrow.{Bor}
 use Rattle.score.specs.Music.{pick}
 use Rattle.score.specs.Calls.{Call, Answer, refused, Limits, Layout, Score, empty_voices, after, answer}
 use Rattle.wire.specs.Bytes.{each}
@@ -9,7 +8,8 @@ use Rattle.session.specs.Session.{opens, limits_for, layout_for}
 use Rattle.text.specs.declared.Unfit.{Unfit}
 use Rattle.text.specs.Lines.{call_line, setting_line}
 use Rattle.score.specs.Spelling.{spelled_answer}
-use Rattle.script.specs.Lines.{line_end, lines}
+use Rattle.script.specs.declared.lines.Lines.{Lines}
+use Rattle.script.specs.Lines.{line_end, lines, lines_in}
 
 -- first one, and with what it gives the other; or the first byte of a line that does not fit
 abbrev pub then : {A B : Type 0} → Result A ℕ → (A → Result B ℕ) → Result B ℕ
@@ -27,10 +27,10 @@ opening_in ls =
     then (setting_in (codes "voices") b.1) (λ v. then (setting_in (codes "events") v.1) (λ e.
     Ok (record { key = k.0; bar = b.0; voices = v.0; events = e.0 }, e.1)))))
 
--- the same as the code has it, which keeps the text of the lines that are left
-abbrev pub lines_left : {A : Type 0} → Result (A × Bor (List ℕ)) Unfit → Result (A × List (List ℕ)) ℕ
-lines_left (Ok v) = Ok (v.0, lines v.1.now)
-lines_left (Err u) = Err u.at
+-- the same as the code has it, which keeps the lines that are left
+abbrev pub with_rest : {A : Type 0} → Result A Unfit → Lines → Result (A × List (List ℕ)) ℕ
+with_rest (Ok a) s = Ok (a, lines_in s)
+with_rest (Err u) s = Err u.at
 
 -- what is answered to a line, by the call that it says or the first byte that does not fit, and the score that it leaves
 abbrev pub line_answer : Limits → Layout → Score → Result Call ℕ → Answer

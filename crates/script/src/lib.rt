@@ -11,6 +11,11 @@ pub mod lines;
 use crate::desk::answer_all;
 use std::alloc::Global;
 
+/// How many voices and events the programs serve at most.
+pub const SERVED_VOICES: u32 = 8;
+
+pub const SERVED_EVENTS: u32 = 1024;
+
 /// The text that answers a script, whole. Only memory can be wanting.
 pub fn answer_script(heap: Global, text: &[u8]) -> anyhow::Result<String>
     ensures { IfOk result (λ s. string_bytes s ≡ script_answers text.now) }

@@ -1,10 +1,18 @@
 //! The lines of a text that say something.
-ghost use Rattle.std.specs.Prelude.{◌≡◌, ◌<◌, [], ◌∷◌, length, drop, Some, None, slice_index_or};
-ghost use Rattle.script.specs.Lines.{all_lines, says, lines};
-ghost use Rattle.script.specs.Script.{lines_left, setting_in, opening_in};
+ghost use Rattle.std.specs.Prelude.{◌≡◌, ◌<◌, ◌∷◌, ◌==◌, length, drop, position};
+ghost use Rattle.std.specs.Iterator.{YieldsFirstRef, item_count};
+ghost use Rattle.script.specs.Lines.{line_end, all_lines, says, lines, lines_in};
+ghost use Rattle.script.specs.Script.{with_rest, setting_in, opening_in};
 
 use session::Opening;
 use text::{Unfit, read_setting};
+
+/// Where the first line of a text ends, if a line end stands there.
+fn line_end(text: &[u8]) -> Option<usize>
+    ensures { result ≡ position (λ x. x == line_end) text.now }
+{
+    text.iter().position(|byte| *byte == b'\n')
+}
 
 /// The first line of a text, without its end, and what is behind it.
 fn cut_line(text: &[u8]) -> (&[u8], &[u8])
@@ -12,12 +20,10 @@ fn cut_line(text: &[u8]) -> (&[u8], &[u8])
     ensures cut { all_lines text.now ≡ result.0.now ∷ all_lines result.1.now }
     ensures less { length result.1.now < length text.now }
 {
-    for (i, byte) in text.iter().enumerate() {
-        if *byte == b'\n' {
-            return (&text[0..i], &text[i + 1..]);
-        }
+    match line_end(text) {
+        Some(end) => (&text[..end], &text[end + 1..]),
+        None => (text, &[]),
     }
-    (text, &text[text.len()..])
 }
 
 /// Whether a line is neither empty nor a comment.
@@ -30,55 +36,56 @@ fn says_something(line: &[u8]) -> bool
     }
 }
 
-/// The next line that says something, and what is behind it.
-pub fn next_line(text: &[u8]) -> Option<(&[u8], &[u8])>
-    ensures { elim result [ Some v ↦ (lines text.now ≡ v.0.now ∷ lines v.1.now) × (length v.1.now < length text.now) | None ↦ lines text.now ≡ [] ] }
-{
-    let mut rest = text;
-    while !rest.is_empty() {
-        let (line, more) = cut_line(rest);
-        if says_something(line) {
-            return Some((line, more));
+/// The lines of a text that say something and have not been given yet, front to back.
+#[derive(Clone, Copy)]
+pub struct Lines<'a> {
+    text: &'a [u8],
+}
+
+impl<'a> Lines<'a> {
+    /// All of them.
+    pub fn of(text: &'a [u8]) -> Lines<'a>
+        ensures { lines_in result ≡ lines text.now }
+    {
+        Lines { text }
+    }
+
+    /// The setting of this name in the next line, which is taken; a line that is missing counts as an empty one.
+    pub fn setting(&mut self, name: &str) -> Result<u32, Unfit>
+        ensures said { with_rest result self.new ≡ setting_in name.now (lines_in self.old) }
+        ensures taken { lines_in self.new ≡ drop 1 (lines_in self.old) }
+    {
+        read_setting(self.next().unwrap_or(&[]), name)
+    }
+
+    /// The opening that the next four lines say, which are taken.
+    pub fn opening(&mut self) -> Result<Opening, Unfit>
+        ensures { with_rest result self.new ≡ opening_in (lines_in self.old) }
+    {
+        Ok(Opening {
+            key: self.setting("key")?,
+            bar: self.setting("bar")?,
+            voices: self.setting("voices")?,
+            events: self.setting("events")?,
+        })
+    }
+}
+
+impl<'a> Iterator for Lines<'a> {
+    type Item = &'a [u8];
+
+    ghost next_gives = { YieldsFirstRef lines_in };
+
+    ghost remaining = { item_count lines_in };
+
+    fn next(&mut self) -> Option<&'a [u8]> {
+        while !self.text.is_empty() {
+            let (line, rest) = cut_line(self.text);
+            self.text = rest;
+            if says_something(line) {
+                return Some(line);
+            }
         }
-        rest = more;
+        None
     }
-    None
-}
-
-/// The next line that says something and what is behind it, or twice nothing.
-fn line_or_none(text: &[u8]) -> (&[u8], &[u8])
-    ensures line { result.0.now ≡ slice_index_or (lines text.now) 0 [] }
-    ensures behind { lines result.1.now ≡ drop 1 (lines text.now) }
-{
-    match next_line(text) {
-        Some(found) => found,
-        None => (&[], &[]),
-    }
-}
-
-/// The setting of this name in the next line that says something, and what is behind that line; a line that is missing counts as an empty one.
-fn next_setting<'a>(text: &'a [u8], name: &str) -> Result<(u32, &'a [u8]), Unfit>
-    ensures { lines_left result ≡ setting_in name.now (lines text.now) }
-{
-    let (line, rest) = line_or_none(text);
-    Ok((read_setting(line, name)?, rest))
-}
-
-/// The opening that the first four lines say, and what is behind them.
-pub fn read_opening(text: &[u8]) -> Result<(Opening, &[u8]), Unfit>
-    ensures { lines_left result ≡ opening_in (lines text.now) }
-{
-    let (key, rest) = next_setting(text, "key")?;
-    let (bar, rest) = next_setting(rest, "bar")?;
-    let (voices, rest) = next_setting(rest, "voices")?;
-    let (events, rest) = next_setting(rest, "events")?;
-    Ok((
-        Opening {
-            key,
-            bar,
-            voices,
-            events,
-        },
-        rest,
-    ))
 }

@@ -1,6 +1,6 @@
 -- The slots and cursors of the voices that have been marked, one voice after the other. Assumes nothing.
-use Rattle.std.proofs.Common.{◌≡◌, ℕ, zero, suc, ◌+◌, ◌-◌, ◌*◌, ◌%◌, ◌<◌, ◌≤◌, true, List, [], ◌∷◌, ◌++◌, map, length, get_or, take, drop, set, replicate, sum, sym, refl, ap, ◌∙◌, subst, inl, inr, zero-add, arith}
-use Rattle.std.proofs.lemmas.List.{get_or-replicate, length-replicate, get_or_past, get_or-set_same, get_or-set_other, length-take, length-drop, take-map, drop_all}
+use Rattle.std.proofs.Common.{◌≡◌, ℕ, zero, suc, ◌+◌, ◌-◌, ◌*◌, ◌%◌, ◌<◌, ◌≤◌, true, List, [], ◌∷◌, ◌++◌, map, length, get_or, take, drop, set, replicate, sum, sym, ap, ◌∙◌, subst, inl, inr, zero-add, arith}
+use Rattle.std.proofs.lemmas.List.{get_or-replicate, length-replicate, get_or_past, get_or-set_same, get_or-set_other, length-take, length-drop, take-map}
 use Rattle.std.proofs.lemmas.Bool.{cases_eq, cases_lt}
 use Rattle.score.specs.Music.{Event, lasts, heard, total, all_fine}
 use Rattle.score.specs.Calls.{Score, ticks_end, voice, begins, together}
@@ -14,7 +14,7 @@ use Rattle.sounds.proofs.Slots.{Free, Rising, begun_none, marks_other, marks_sam
 use Rattle.sounds.proofs.Walks.{ticks_no_lengths}
 use Rattle.sounds.proofs.Turns.{begun_later, begun_here}
 use Rattle.sounds.proofs.Mixed.{mixed_same, together_mixed}
-use Rattle.sounds.proofs.Parts.{voice_drop, voice_take, lasts_voice, total_sum, voice_dealt, begins_passed, starts_until, rising_starts, rising_later, length_dealt}
+use Rattle.sounds.proofs.Parts.{voice_drop, voice_take, lasts_voice, total_sum, voice_dealt, begins_passed, starts_until, rising_starts, rising_later, length_dealt, absent, none_left}
 
 no_bit : (u t m : ℕ) (ms : List ℕ) → begun u t (m ∷ ms) ≡ [] → bit_at m u ≡ 0
 no_bit u t m ms h = elim (cases_eq (bit_at m u) 1) [
@@ -184,20 +184,10 @@ module _ (ns ps xs ds : List ℕ) (first e : ℕ) (cursors ms : List ℕ) (all :
   abbrev S : Score
   S = score_in ns ps xs ds
 
-  -- of a voice that is not there nothing is left
-  absent : (u : ℕ) → length ns ≤ u → voice S u ≡ []
-  absent u l = get_or_past S u [] (omega (arith, length_dealt ns (voice_of ps xs ds)))
-
-  none_left : (u : ℕ) → length ns ≤ u → left ns ps xs ds e cursors u ≡ []
-  unfolding until heard
-  none_left u l =
-      let i : ℕ = get_or cursors u 0 - sum (take u ns) in
-      ap (λ (es : List Event). until u e (from_event es i)) (absent u l) ∙ ap (λ (es : List Event). until u e (heard es (total (take i [])))) (drop_all i [] (omega arith))
-
   pub marked_ready : Ready ns ps xs ds e cursors (grain * first) ms
   marked_ready = record {
     begin = record {
-      told = λ u. elim (cases_lt u (length ns)) [ inl l ↦ all.told u l | inr l ↦ ap starts (none_left u l) ∙ sym (all.free u l) ];
+      told = λ u. elim (cases_lt u (length ns)) [ inl l ↦ all.told u l | inr l ↦ ap starts (none_left ns ps xs ds e cursors u l) ∙ sym (all.free u l) ];
     };
     reached = all.reached;
   }
@@ -207,7 +197,7 @@ module _ (ns ps xs ds : List ℕ) (first e : ℕ) (cursors ms : List ℕ) (all :
   marked_whole =
       mixed_same _ _ (length ns) 0 (λ u _. elim (cases_lt u (length ns)) [
         | inl l ↦ all.whole u l
-        | inr l ↦ none_left u l ∙ sym (ap (λ (es : List Event). begins u (grain * first) e (heard es 0)) (absent u l))
+        | inr l ↦ none_left ns ps xs ds e cursors u l ∙ sym (ap (λ (es : List Event). begins u (grain * first) e (heard es 0)) (absent ns ps xs ds u l))
       ])
       ∙ ap (λ (n : ℕ). mixed (λ u. begins u (grain * first) e (heard (voice S u) 0)) n 0) (sym (length_dealt ns (voice_of ps xs ds)))
       ∙ sym (together_mixed S (grain * first) e)

@@ -1,7 +1,8 @@
 -- Voices in three rows of words: what is heard of them in a span, and which note comes next. Assumes nothing.
-use Rattle.std.proofs.Common.{◌≡◌, ℕ, zero, suc, ◌+◌, ◌-◌, ◌*◌, ◌/◌, ◌%◌, ◌<◌, ◌≤◌, min, Bool, true, false, cond, one-add, ◌&&◌, eqb, ltb, leb, ◌⊎◌, List, [], ◌∷◌, map, length, get_or, take, drop, sum, sym, refl, ap, ◌∙◌, inl, inr, add_assoc, suc-add, zero-add, arith}
-use Rattle.std.proofs.lemmas.List.{drop-drop, take_all}
+use Rattle.std.proofs.Common.{◌≡◌, ℕ, zero, suc, ◌+◌, ◌-◌, ◌*◌, ◌/◌, ◌%◌, ◌<◌, ◌≤◌, min, Bool, true, false, cond, one-add, ◌&&◌, eqb, ltb, leb, List, [], ◌∷◌, map, length, get_or, take, drop, sum, sym, refl, ap, ◌∙◌, inl, inr, suc-add, arith}
+use Rattle.std.proofs.lemmas.List.{drop-drop, drop_all, get_or_past}
 use Rattle.std.proofs.lemmas.List.Sums.{sum_by-cons}
+use Rattle.std.proofs.lemmas.Grind.{common_steps}
 use Rattle.std.proofs.lemmas.Bool.{and_parts, and_from, and_left, and_right, cases_lt, le-leb, lt-leb, lt-ltb, le-ltb, ltb-true}
 use Rattle.score.specs.Music.{pick, places, alterations, length_end, Event, note, silence, lasts, tone, Heard, heard, total, fine, all_fine}
 use Rattle.score.specs.Calls.{voice, begins}
@@ -11,7 +12,7 @@ use Rattle.laws.proofs.Events.{fine_lasts}
 use Rattle.laws.proofs.Rows.{lasts_words}
 use Rattle.memory.proofs.Scores.{fine_fields, fine_place}
 use Rattle.memory.specs.Store.{dealt}
-use Rattle.sounds.specs.Spans.{Row, until, starts, grain, passed, note_ticks, silences, sound_at}
+use Rattle.sounds.specs.Spans.{Row, from_event, until, starts, grain, passed, note_ticks, silences, sound_at, score_in, left}
 use Rattle.sounds.proofs.Slots.{Rising}
 
 -- ---- parts of rows
@@ -48,7 +49,7 @@ unfolding voice_of
 length_voice [] xs ds p q = refl
 length_voice (p ∷ ps) [] ds e q = absurd (omega arith)
 length_voice (p ∷ ps) (x ∷ xs) [] e q = absurd (omega arith)
-length_voice (p ∷ ps) (x ∷ xs) (d ∷ ds) e q = ap suc (length_voice ps xs ds (omega arith) (omega arith))
+length_voice (p ∷ ps) (x ∷ xs) (d ∷ ds) e q = grind (arith, length_voice ps xs ds)
 
 pub lasts_voice : (ps xs ds : List ℕ) → length xs ≡ length ps → length ds ≡ length ps → map lasts (voice_of ps xs ds) ≡ ds
 unfolding voice_of
@@ -63,16 +64,14 @@ lasts_voice (p ∷ ps) (x ∷ xs) (d ∷ ds) e q =
 pub total_sum : (es : List Event) → total es ≡ sum (map lasts es)
 unfolding total
 total_sum [] = refl
-total_sum (e ∷ es) = ap (λ (n : ℕ). lasts e + n) (total_sum es) ∙ sym (sum_by-cons (λ x. x) (lasts e) (map lasts es))
+total_sum (e ∷ es) = let c = sum_by-cons (λ x. x) (lasts e) (map lasts es) in omega (arith, c, total_sum es)
 
 -- the ticks of a front, in two parts
 pub total_take : (i k : ℕ) (es : List Event) → total (take i es) + total (take k (drop i es)) ≡ total (take (i + k) es)
 unfolding total
-total_take zero k es = zero-add _ ∙ ap (λ (n : ℕ). total (take n es)) (sym (zero-add k))
-total_take (suc i) k [] = zero-add _ ∙ ap total (take_all k [] (omega arith)) ∙ sym (ap total (take_all (suc i + k) [] (omega arith)))
-total_take (suc i) k (e ∷ es) =
-    let ih = total_take i k es in
-    add_assoc (lasts e) _ _ ∙ ap (λ (n : ℕ). lasts e + n) ih ∙ ap (λ (n : ℕ). total (take n (e ∷ es))) (sym (suc-add i k))
+total_take zero k es = grind (arith, common_steps)
+total_take (suc i) k [] = grind (arith, common_steps)
+total_take (suc i) k (e ∷ es) = rw suc-add (omega (arith, total_take i k es))
 
 -- a note that can be written has fields in range
 pub note_fields : (p a d : ℕ) → fine (note p a d) ≡ true → (p < places) × (a < alterations) × (d < length_end)
@@ -97,10 +96,10 @@ take_none : {A : Type 0} (n : ℕ) (xs : List A) → n ≡ 0 → take n xs ≡ [
 take_none n xs e = ap (λ (k : ℕ). take k xs) e
 
 pub drop_take_sub : {A : Type 0} (i c : ℕ) (xs : List A) → drop i (take c xs) ≡ take (c - i) (drop i xs)
-drop_take_sub zero c xs = ap (λ (n : ℕ). take n xs) (omega arith)
-drop_take_sub (suc i) zero xs = sym (take_none (0 - suc i) (drop (suc i) xs) (omega arith))
-drop_take_sub (suc i) (suc c) [] = sym (take_all (suc c - suc i) [] (omega arith))
-drop_take_sub (suc i) (suc c) (x ∷ xs) = drop_take_sub i c xs ∙ ap (λ (n : ℕ). take n (drop i xs)) (omega arith)
+drop_take_sub zero c xs = grind (arith, common_steps)
+drop_take_sub (suc i) zero xs = grind (arith, common_steps)
+drop_take_sub (suc i) (suc c) [] = grind (arith, common_steps)
+drop_take_sub (suc i) (suc c) (x ∷ xs) = grind (arith, common_steps, drop_take_sub i c xs)
 
 -- ---- what begins in a span
 
@@ -232,56 +231,6 @@ begins_slots u a b t (note p q d ∷ es) f m =
 
 -- ---- the note that comes next
 
--- Of events in three rows, it is the one of index k, behind the silences that come first.
-pub record Coming (es : List Event) (ps xs ds : List ℕ) (k t : ℕ) : Type 0 where
-  pub in_voice : k < length es
-  pub event : get_or es k (silence 0) ≡ note (get_or ps k 0) (get_or xs k 0) (get_or ds k 0)
-  pub first : heard es t ≡ sound_at ps xs ds k (t + total (take k es)) ∷ heard (drop (suc k) es) (t + total (take (suc k) es))
-
--- or there are only silences
-pub record Silent (es : List Event) (k t : ℕ) : Type 0 where
-  pub all_passed : length es ≤ k
-  pub nothing : heard es t ≡ []
-
-coming_step :
-    (p x d : ℕ) (ps xs ds : List ℕ) (es : List Event) (k t : ℕ) (b : Bool) → Coming es ps xs ds k (t + d) ⊎ Silent es k (t + d)
-    → Coming (pick b (silence d) (note p x d) ∷ es) (p ∷ ps) (x ∷ xs) (d ∷ ds) (cond b (suc k) 0) t ⊎ Silent (pick b (silence d) (note p x d) ∷ es) (cond b (suc k) 0) t
-unfolding heard total lasts
-coming_step p x d ps xs ds es k t true (inl c) =
-    let a : t + d + total (take k es) ≡ t + (d + total (take k es)) = omega arith in
-    let b : t + d + total (take (suc k) es) ≡ t + (d + total (take (suc k) es)) = omega arith in
-    inl record {
-      in_voice = omega (arith, c.in_voice);
-      event = c.event;
-      first =
-          c.first ∙ ap (λ (n : ℕ). sound_at ps xs ds k n ∷ heard (drop (suc k) es) (t + d + total (take (suc k) es))) a
-          ∙ ap (λ (n : ℕ). sound_at ps xs ds k (t + (d + total (take k es))) ∷ heard (drop (suc k) es) n) b;
-    }
-coming_step p x d ps xs ds es k t true (inr s) = inr record { all_passed = omega (arith, s.all_passed); nothing = s.nothing }
-coming_step p x d ps xs ds es k t false r =
-    let a : t ≡ t + 0 = omega arith in
-    let b : t + d ≡ t + (d + 0) = omega arith in
-    inl record {
-      in_voice = omega arith;
-      event = refl;
-      first = ap (λ (n : ℕ). record { start = n; long = d; high = tone p x } ∷ heard es (t + d)) a ∙ ap (λ (n : ℕ). record { start = t + 0; long = d; high = tone p x } ∷ heard es n) b;
-    }
-
-pub coming : (ps xs ds : List ℕ) (n t : ℕ) → Coming (take n (voice_of ps xs ds)) ps xs ds (silences ps) t ⊎ Silent (take n (voice_of ps xs ds)) (silences ps) t
-unfolding heard voice_of
-coming ps xs ds zero t = inr record { all_passed = omega arith; nothing = refl }
-coming [] xs ds (suc n) t = inr record { all_passed = omega arith; nothing = refl }
-coming (p ∷ ps) [] ds (suc n) t = inr record { all_passed = omega arith; nothing = refl }
-coming (p ∷ ps) (x ∷ xs) [] (suc n) t = inr record { all_passed = omega arith; nothing = refl }
-coming (p ∷ ps) (x ∷ xs) (d ∷ ds) (suc n) t = rw (one-add (silences ps)) (coming_step p x d ps xs ds (take n (voice_of ps xs ds)) (silences ps) t (eqb p places) (coming ps xs ds n (t + d)))
-
--- the same of what begins before tick e, of voice u
-pub record Next (es : List Event) (ps xs ds : List ℕ) (k t u e : ℕ) (y : ℕ × Heard) (ys : Row) : Type 0 where
-  pub in_voice : k < length es
-  pub event : get_or es k (silence 0) ≡ note (get_or ps k 0) (get_or xs k 0) (get_or ds k 0)
-  pub sound : y ≡ (u, sound_at ps xs ds k y.1.start)
-  pub rest : ys ≡ until u e (heard (drop (suc k) es) (t + total (take (suc k) es)))
-
 until_first : (u e : ℕ) (h : Heard) (hs : List Heard) (y : ℕ × Heard) (ys : Row) → until u e (h ∷ hs) ≡ y ∷ ys → (y ≡ (u, h)) × (ys ≡ until u e hs)
 unfolding until
 until_first u e h hs y ys q =
@@ -290,19 +239,50 @@ until_first u e h hs y ys q =
       | inr l ↦ let f : [] ≡ y ∷ ys = sym (pick_false (ltb h.start e) _ _ (le-ltb _ _ l)) ∙ q in (cc, cc)
     ]
 
+-- The note of voice u that comes next before tick e: of events in three rows, it is the one of index k, behind the silences that come first.
+pub record Next (es : List Event) (ps xs ds : List ℕ) (k t u e : ℕ) (y : ℕ × Heard) (ys : Row) : Type 0 where
+  pub in_voice : k < length es
+  pub event : get_or es k (silence 0) ≡ note (get_or ps k 0) (get_or xs k 0) (get_or ds k 0)
+  pub sound : y ≡ (u, sound_at ps xs ds k y.1.start)
+  pub rest : ys ≡ until u e (heard (drop (suc k) es) (t + total (take (suc k) es)))
+
+next_step :
+    (p x d : ℕ) (ps xs ds : List ℕ) (es : List Event) (k t u e : ℕ) (y : ℕ × Heard) (ys : Row) (b : Bool) → (until u e (heard es (t + d)) ≡ y ∷ ys → Next es ps xs ds k (t + d) u e y ys)
+    → until u e (heard (pick b (silence d) (note p x d) ∷ es) t) ≡ y ∷ ys → Next (pick b (silence d) (note p x d) ∷ es) (p ∷ ps) (x ∷ xs) (d ∷ ds) (cond b (suc k) 0) t u e y ys
+unfolding heard total lasts
+next_step p x d ps xs ds es k t u e y ys true later h =
+    let c = later h in
+    let n : t + d + total (take (suc k) es) ≡ t + (d + total (take (suc k) es)) = omega arith in
+    record { in_voice = omega (arith, c.in_voice); event = c.event; sound = c.sound; rest = c.rest ∙ ap (λ (i : ℕ). until u e (heard (drop (suc k) es) i)) n }
+next_step p x d ps xs ds es k t u e y ys false later h =
+    let f = until_first u e (record { start = t; long = d; high = tone p x }) (heard es (t + d)) y ys h in
+    let n : t + d ≡ t + (d + 0) = omega arith in
+    record {
+      in_voice = omega arith;
+      event = refl;
+      sound = f.0 ∙ ap (λ (i : ℕ). (u, record { start = i; long = d; high = tone p x })) (sym (ap (λ (z : ℕ × Heard). z.1.start) f.0));
+      rest = f.1 ∙ ap (λ (i : ℕ). until u e (heard es i)) n;
+    }
+
 pub next_heard :
     (ps xs ds : List ℕ) (n t u e : ℕ) (y : ℕ × Heard) (ys : Row) → until u e (heard (take n (voice_of ps xs ds)) t) ≡ y ∷ ys
     → Next (take n (voice_of ps xs ds)) ps xs ds (silences ps) t u e y ys
-unfolding until
-next_heard ps xs ds n t u e y ys h =
-    elim (coming ps xs ds n t) [
-      | inl c ↦
-          let f = until_first u e _ _ y ys (ap (until u e) (sym c.first) ∙ h) in
-          record {
-            in_voice = c.in_voice;
-            event = c.event;
-            sound = f.0 ∙ ap (λ (i : ℕ). (u, sound_at ps xs ds (silences ps) i)) (sym (ap (λ (z : ℕ × Heard). z.1.start) f.0));
-            rest = f.1;
-          }
-      | inr s ↦ let f : [] ≡ y ∷ ys = ap (until u e) (sym s.nothing) ∙ h in cc
-    ]
+unfolding until heard voice_of
+next_heard ps xs ds zero t u e y ys h = cc
+next_heard [] xs ds (suc n) t u e y ys h = cc
+next_heard (p ∷ ps) [] ds (suc n) t u e y ys h = cc
+next_heard (p ∷ ps) (x ∷ xs) [] (suc n) t u e y ys h = cc
+next_heard (p ∷ ps) (x ∷ xs) (d ∷ ds) (suc n) t u e y ys h =
+    rw (one-add (silences ps)) (next_step p x d ps xs ds (take n (voice_of ps xs ds)) (silences ps) t u e y ys (eqb p places) (next_heard ps xs ds n (t + d) u e y ys) h)
+
+-- ---- a voice that is not there
+
+pub absent : (ns ps xs ds : List ℕ) (u : ℕ) → length ns ≤ u → voice (score_in ns ps xs ds) u ≡ []
+absent ns ps xs ds u l = get_or_past (score_in ns ps xs ds) u [] (omega (arith, length_dealt ns (voice_of ps xs ds)))
+
+-- and of which nothing is left
+pub none_left : (ns ps xs ds : List ℕ) (e : ℕ) (cursors : List ℕ) (u : ℕ) → length ns ≤ u → left ns ps xs ds e cursors u ≡ []
+unfolding until heard
+none_left ns ps xs ds e cursors u l =
+    let i : ℕ = get_or cursors u 0 - sum (take u ns) in
+    ap (λ (es : List Event). until u e (from_event es i)) (absent ns ps xs ds u l) ∙ ap (λ (es : List Event). until u e (heard es (total (take i [])))) (drop_all i [] (omega arith))

@@ -1,7 +1,7 @@
 -- One turn over the rows of words: the note that the lowest bit of a slot tells of, and what is left behind it. Assumes nothing.
 use Rattle.std.proofs.Common.{◌≡◌, ℕ, suc, ◌+◌, ◌-◌, ◌^◌, ◌<◌, ◌≤◌, true, List, [], ◌∷◌, length, get_or, take, drop, set, sum, sym, ap, ◌∙◌, subst, inl, inr, arith}
 use lib.Bits.{bit_xor}
-use Rattle.std.proofs.lemmas.List.{drop-drop, get_or-drop, get_or_past, get_or-set_same, get_or-set_other, length-take, length-drop, drop_all}
+use Rattle.std.proofs.lemmas.List.{drop-drop, get_or-drop, get_or-set_same, get_or-set_other, length-take, length-drop}
 use Rattle.std.proofs.lemmas.Bool.{cases_eq, cases_lt}
 use Rattle.score.specs.Music.{places, alterations, length_end, Event, note, silence, Heard, heard, total, fine, all_fine}
 use Rattle.score.specs.Calls.{voice}
@@ -10,7 +10,7 @@ use Rattle.memory.proofs.Scores.{fine_at, fines_voice, fine_parts}
 use Rattle.sounds.specs.Spans.{Row, from_event, until, silences, grain, begun, sound_at, score_in, Laid, left, Ready, all_left}
 use Rattle.sounds.proofs.Bits.{Lowest}
 use Rattle.sounds.proofs.Turns.{First, turn_first, turn_mixed, turn_begin}
-use Rattle.sounds.proofs.Parts.{voice_drop, length_voice, voice_dealt, length_dealt, drop_take_sub, total_take, note_fields, Next, next_heard}
+use Rattle.sounds.proofs.Parts.{voice_drop, length_voice, voice_dealt, drop_take_sub, total_take, note_fields, Next, next_heard, none_left}
 
 from_later : (es : List Event) (u e i k : ℕ) → until u e (heard (drop (suc k) (drop i es)) (total (take i es) + total (take (suc k) (drop i es)))) ≡ until u e (from_event es (i + suc k))
 from_later es u e i k =
@@ -19,16 +19,10 @@ from_later es u e i k =
 
 -- a voice of which something is left is there
 there : (ns ps xs ds : List ℕ) (e : ℕ) (cursors : List ℕ) (u : ℕ) (y : ℕ × Heard) (ys : Row) → left ns ps xs ds e cursors u ≡ y ∷ ys → u < length ns
-unfolding until heard
 there ns ps xs ds e cursors u y ys h =
     elim (cases_lt u (length ns)) [
       | inl l ↦ l
-      | inr l ↦
-          let i : ℕ = get_or cursors u 0 - sum (take u ns) in
-          let n : voice (score_in ns ps xs ds) u ≡ [] = get_or_past (score_in ns ps xs ds) u [] (omega (arith, length_dealt ns (voice_of ps xs ds))) in
-          let none : until u e (from_event [] i) ≡ [] = ap (λ (es : List Event). until u e (heard es (total (take i [])))) (drop_all i [] (omega arith)) in
-          let f : [] ≡ y ∷ ys = sym none ∙ ap (λ (es : List Event). until u e (from_event es i)) (sym n) ∙ h in
-          cc
+      | inr l ↦ let f : [] ≡ y ∷ ys = sym (none_left ns ps xs ds e cursors u l) ∙ h in cc
     ]
 
 -- The turn of voice v: its cursor passes over silences to a note, which is next of all that is left.

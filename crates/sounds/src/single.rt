@@ -46,9 +46,10 @@ pub fn heard(score: Stored<'_>, voice: u32) -> Option<Notes<'_>>
     ensures { MatchOption result (voices_in score.entry.words.now ≤ voice) (λ n. Playable n × IsEven n × (n.voice ≡ voice) × (voice < voices_in score.entry.words.now) × (heard_yet n ≡ heard_from (voice_in (score_of score.entry.words.now) voice) 0)) }
 {
     let span = score.find_voice(voice)?;
+    let rows = score.rows(span);
     Some(Notes {
         voice: voice as u8,
-        rows: score.rows(span),
+        rows,
         tick: 0,
     })
 }

@@ -3,7 +3,7 @@ ghost use Rattle.std.specs.Prelude.{◌≡◌, ◌+◌, ◌*◌, ◌^◌, ◌<�
 ghost use Rattle.score.specs.Calls.{all_events, widest_span, together};
 ghost use Rattle.wire.specs.Bytes.{sounds_bytes};
 ghost use Rattle.memory.specs.Store.{score_of};
-ghost use Rattle.sounds.specs.Spans.{grain, silences, Laid};
+ghost use Rattle.sounds.specs.Spans.{grain, silences, Laid, Ready};
 
 use super::{GRAIN, mark_voice, silences_first, sound_of};
 use rows::{Row, Rows};
@@ -39,14 +39,14 @@ impl<'a> From<Stored<'a>> for Voices<'a> {
 }
 
 impl Voices<'_> {
-    ghost use Rattle.sounds.specs.Scores.{score_in, row_at, Ready, all_left};
+    ghost use Rattle.sounds.specs.Scores.{score_in, row_at, all_left, IsMarked};
 
-    /// Sets the bits of all voices in empty slots, where they begin notes. Returns each voice's first event from the first slot on.
+    /// Sets the bits of all voices in empty slots, where they begin notes. Returns which event comes first in each voice from the first slot on.
     #[tactic(auto, using(crate::proofs::Walks::ticks_more))]
     fn mark(self, first: usize, slots: &mut [u64]) -> [usize; CURSORS]
         requires empty { slots.old ≡ replicate (length slots.old) 0 }
         requires small { grain * (first + length slots.old) < 2 ^ 32 }
-        ensures ready { Ready self.entry (grain * (first + length slots.old)) result (grain * first) slots.new }
+        ensures ready { IsMarked self.entry (grain * (first + length slots.old)) result (grain * first) slots.new }
         ensures whole { all_left self.entry (grain * (first + length slots.old)) result ≡ together (score_in self.entry) 0 (grain * first) (grain * (first + length slots.old)) }
     {
         let mut cursors = [0; CURSORS];
@@ -82,31 +82,6 @@ impl Voices<'_> {
         (at, row)
     }
 
-    /// Writes what is left of all voices as the slots tell it: slot by slot, and in each the voices in order. Returns how many notes that is.
-    fn write(self, first: usize, slots: &[u64], cursors: [usize; CURSORS], out: &mut [u8]) -> usize
-        requires ready { Ready self (grain * (first + length slots.now)) cursors (grain * first) slots.now }
-        requires small { grain * (first + length slots.now) < 2 ^ 32 }
-        requires room { 8 * length (all_left self (grain * (first + length slots.now)) cursors) ≤ length out.old }
-        ensures wrote { out.new ≡ sounds_bytes (all_left self.entry (grain * (first + length slots.now)) cursors) ++ drop (8 * result) out.old }
-        ensures many { result ≡ length (all_left self.entry (grain * (first + length slots.now)) cursors) }
-    {
-        let mut cursors = cursors;
-        let mut count = 0;
-        for (index, slot) in slots.iter().enumerate() {
-            let start = (GRAIN * (first + index)) as u32;
-            let mut voices = *slot;
-            while voices != 0 {
-                let voice = voices.trailing_zeros();
-                voices ^= 1 << voice;
-                let (at, row) = self.next_note(cursors[voice as usize]);
-                cursors[voice as usize] = at + 1;
-                write_sound(&mut out[8 * count..], sound_of(row, voice as u8, start));
-                count += 1;
-            }
-        }
-        count
-    }
-
     /// Writes the notes that begin from a tick up to before another, by time, and by voice where times are the same. Returns how many they are.
     pub fn write_span(self, from: u32, to: u32, out: &mut [u8]) -> usize
         requires span { to ≤ from + widest_span }
@@ -119,6 +94,50 @@ impl Voices<'_> {
         let mut empty = [0; MOST_SLOTS];
         let slots = &mut empty[..used];
         let cursors = self.mark(first, slots);
-        self.write(first, slots, cursors, out)
+        let marked = Marked {
+            voices: self,
+            first,
+            slots,
+            cursors,
+        };
+        marked.write(out)
+    }
+}
+
+/// What is to be written: voices, slots that tell when they begin notes, the first of which has a number, and which event comes next in each voice.
+#[derive(Drop)]
+struct Marked<'a> {
+    voices: Voices<'a>,
+    first: usize,
+    slots: &'a [u64],
+    cursors: [usize; CURSORS],
+    ghost small: { grain * (first + length slots.now) < 2 ^ 32 },
+    ghost ready: { Ready voices.counts.now voices.rows.places.now voices.rows.alterations.now voices.rows.lengths.now (grain * (first + length slots.now)) cursors (grain * first) slots.now },
+}
+
+impl Marked<'_> {
+    ghost use Rattle.sounds.specs.Scores.{notes_left};
+
+    /// Writes the notes that the slots tell of: slot by slot, and in each the voices in order. Returns how many they are.
+    fn write(self, out: &mut [u8]) -> usize
+        requires { 8 * length (notes_left self) ≤ length out.old }
+        ensures wrote { out.new ≡ sounds_bytes (notes_left self.entry) ++ drop (8 * result) out.old }
+        ensures many { result ≡ length (notes_left self.entry) }
+    {
+        let mut cursors = self.cursors;
+        let mut count = 0;
+        for (index, slot) in self.slots.iter().enumerate() {
+            let start = (GRAIN * (self.first + index)) as u32;
+            let mut voices = *slot;
+            while voices != 0 {
+                let voice = voices.trailing_zeros();
+                voices ^= 1 << voice;
+                let (at, row) = self.voices.next_note(cursors[voice as usize]);
+                cursors[voice as usize] = at + 1;
+                write_sound(&mut out[8 * count..], sound_of(row, voice as u8, start));
+                count += 1;
+            }
+        }
+        count
     }
 }

@@ -9,6 +9,7 @@ ghost use Rattle.memory.specs.Words.{Holds};
 mod tests {
     use score::Sound;
     use sounds::{heard, heard_in};
+    use voices::Stored;
     use wire::read_sound;
 
     // A score of four voices: c4, d4 and e4; nothing; a silence and g4; e4, a long silence and c4.
@@ -36,8 +37,10 @@ mod tests {
 
     #[test]
     fn together_by_time_and_voice(rt: HostRuntime) {
+        let words = score();
+        let score = Stored::of(&words);
         let mut out = [255; 64];
-        assert_eq!(rt; heard_in(&score(), 0, 1536, &mut out), 5);
+        assert_eq!(rt; heard_in(score, 0, 1536, &mut out), 5);
         assert_eq!(rt; read_sound(&out[0..]), note(0, 0, 48, 50));
         assert_eq!(rt; read_sound(&out[8..]), note(3, 0, 96, 54));
         assert_eq!(rt; read_sound(&out[16..]), note(0, 48, 48, 52));
@@ -48,34 +51,32 @@ mod tests {
 
     #[test]
     fn spans_of_all_kinds(rt: HostRuntime) {
+        let words = score();
+        let score = Stored::of(&words);
         let mut out = [255; 64];
-        assert_eq!(rt; heard_in(&score(), 48, 48, &mut out), 0);
-        assert_eq!(rt; heard_in(&score(), 96, 48, &mut out), 0);
-        assert_eq!(rt; heard_in(&score(), 5000, 6536, &mut out), 0);
-        assert_eq!(rt; heard_in(&score(), 4294967295, 4294967295, &mut out), 0);
+        assert_eq!(rt; heard_in(score, 48, 48, &mut out), 0);
+        assert_eq!(rt; heard_in(score, 96, 48, &mut out), 0);
+        assert_eq!(rt; heard_in(score, 5000, 6536, &mut out), 0);
+        assert_eq!(rt; heard_in(score, 4294967295, 4294967295, &mut out), 0);
         assert_eq!(rt; out[0], 255);
-        assert_eq!(rt; heard_in(&score(), 47, 49, &mut out), 2);
+        assert_eq!(rt; heard_in(score, 47, 49, &mut out), 2);
         assert_eq!(rt; read_sound(&out[8..]), note(2, 48, 48, 57));
-        assert_eq!(rt; heard_in(&score(), 1536, 3072, &mut out), 1);
+        assert_eq!(rt; heard_in(score, 1536, 3072, &mut out), 1);
         assert_eq!(rt; read_sound(&out[0..]), note(3, 1536, 48, 50));
     }
 
     // The last note of a voice.
-    fn last_of(words: &[u32], voice: u32) -> Option<Sound>
-        requires { Holds words.now }
-    {
-        let mut last = None;
-        for sound in heard(words, voice)? {
-            last = Some(sound);
-        }
-        last
+    fn last_of(score: Stored<'_>, voice: u32) -> Option<Sound> {
+        heard(score, voice)?.last()
     }
 
     #[test]
     fn one_voice(rt: HostRuntime) {
-        assert_eq!(rt; last_of(&score(), 0), note(0, 96, 96, 54));
-        assert_eq!(rt; last_of(&score(), 1), None);
-        assert_eq!(rt; last_of(&score(), 3), note(3, 1536, 48, 50));
-        assert_eq!(rt; last_of(&score(), 4), None);
+        let words = score();
+        let score = Stored::of(&words);
+        assert_eq!(rt; last_of(score, 0), note(0, 96, 96, 54));
+        assert_eq!(rt; last_of(score, 1), None);
+        assert_eq!(rt; last_of(score, 3), note(3, 1536, 48, 50));
+        assert_eq!(rt; last_of(score, 4), None);
     }
 }

@@ -4,14 +4,13 @@ use Rattle.std.proofs.lemmas.List.{append-nil}
 use Rattle.std.proofs.lemmas.Bool.{and_parts, ltb-true, ne_eqb}
 use Rattle.score.specs.Music.{Event, note, silence, places, alterations, length_end, fine_length, fine}
 use Rattle.score.proofs.Picks.{pick_false}
-use Rattle.words.specs.Words.{Read, got, then, begins_with_digit, strip, one_of, place_on, most_in_two}
-use Rattle.text.specs.declared.Beginning.{Beginning}
+use Rattle.words.specs.Words.{got, begins_with_digit, strip, one_of, most_in_two}
 use Rattle.text.specs.declared.Beginning.TheVariants.{Step}
-use Rattle.text.specs.Lines.{beginning, alteration_word, alteration_in, alteration, length_on, note_on, event_on, event, whole}
+use Rattle.text.specs.Lines.{beginning, alteration_word, alteration_in, alteration, note_on, event, whole}
 use Rattle.score.specs.Spelling.{letter, alteration_name, spelled_event}
 use Rattle.text_laws.specs.Back.{EventsBack}
 use Rattle.text_laws.proofs.Cases.{five, seven, digit_range}
-use Rattle.text_laws.proofs.Numbers.{decimal_digit, spaced_back, place_back}
+use Rattle.text_laws.proofs.Numbers.{then_got, decimal_digit, spaced_back, place_back}
 
 step_read : (s : ℕ) (xs : List ℕ) → s < 7 → beginning (letter s ++ xs) ≡ got (Step s) xs
 unfolding beginning one_of strip
@@ -20,7 +19,7 @@ step_read s xs h = seven (λ n. beginning (letter n ++ xs) ≡ got (Step n) xs) 
 -- digits, and no space, follow a step that is not altered
 unaltered : (xs : List ℕ) → begins_with_digit xs ≡ true → alteration xs ≡ got 2 xs
 unfolding begins_with_digit strip
-unaltered [] h = absurd (let z : ◌≡◌ {A = ℕ} 0 1 = cc in omega arith)
+unaltered [] h = cc
 unaltered (x ∷ xs) h =
     let r = digit_range x h in
     ap (alteration_in (x ∷ xs)) (pick_false _ _ _ (ne_eqb 32 x (omega arith)))
@@ -45,13 +44,13 @@ note_read : (p a d : ℕ) (more : List ℕ) → p < places → a < alterations �
 unfolding begins_with_digit
 note_read p a d more hp ha hd e =
     let tail : List ℕ = codes " " ++ (decimal d ++ more) in
-    ap (λ (r : Read ℕ). then r (λ b ys. then (place_on (p % 7) ys) (λ q zs. then (length_on zs) (λ l us. got (note q b l) us)))) (alteration_read a (decimal (p / 7) ++ tail) ha (decimal_digit (p / 7) tail (omega arith)))
-    ∙ ap (λ (r : Read ℕ). then r (λ q zs. then (length_on zs) (λ l us. got (note q a l) us))) (place_back p tail hp refl)
-    ∙ ap (λ (r : Read ℕ). then r (λ l us. got (note p a l) us)) (spaced_back most_in_two d more hd (omega arith) e)
+    then_got _ _ _ _ (alteration_read a (decimal (p / 7) ++ tail) ha (decimal_digit (p / 7) tail (omega arith)))
+    ∙ then_got _ _ _ _ (place_back p tail hp refl)
+    ∙ then_got _ _ _ _ (spaced_back most_in_two d more hd (omega arith) e)
 
 silence_read : (d : ℕ) (more : List ℕ) → d ≤ most_in_two → begins_with_digit more ≡ false → event (codes "silence " ++ (decimal d ++ more)) ≡ got (silence d) more
 unfolding beginning one_of strip
-silence_read d more h e = ap (λ (r : Read ℕ). then r (λ l us. got (silence l) us)) (spaced_back most_in_two d more h (omega arith) e)
+silence_read d more h e = then_got _ _ _ _ (spaced_back most_in_two d more h (omega arith) e)
 
 event_read : (e : Event) (more : List ℕ) → fine e ≡ true → begins_with_digit more ≡ false → event (spelled_event e ++ more) ≡ got e more
 unfolding fine
@@ -65,7 +64,7 @@ event_read (note p a d) more h n =
     ∙ ap (λ (xs : List ℕ). letter s ++ xs)
     (append_assoc (alteration_name a) (decimal (p / 7) ++ (codes " " ++ decimal d)) more
     ∙ ap (λ (xs : List ℕ). alteration_name a ++ xs) (append_assoc (decimal (p / 7)) (codes " " ++ decimal d) more)))
-    ∙ ap (λ (r : Read Beginning). then r (λ b ys. event_on b ys)) (step_read s tail low)
+    ∙ then_got _ _ _ _ (step_read s tail low)
     ∙ note_read p a d more f.0 f.1 f.2 n
 event_read (silence d) more h n = silence_read d more (short_length d h) n
 

@@ -7,6 +7,10 @@ use Rattle.words.specs.Words.{Read, got, then, begins_with_digit, number_on, num
 use Rattle.words.proofs.Steps.{digit_is, digit_fits, digits_over}
 use Rattle.text_laws.specs.Back.{NumbersBack}
 
+-- what was got is handed on
+pub then_got : {A B : Type 0} (f : A → List ℕ → Read B) (r : Read A) (a : A) (xs : List ℕ) → r ≡ got a xs → then r f ≡ f a xs
+then_got f r a xs e = ap (λ q. then q f) e
+
 -- digits that come to n lead there, whatever follows, and the first of them is one
 Leads : ℕ → ℕ → List ℕ → Type 0
 Leads most n ds = (more : List ℕ) → n ≤ most → (begins_with_digit (ds ++ more) ≡ true) × (number_on most 0 (ds ++ more) ≡ number_on most n more)
@@ -53,5 +57,4 @@ place_back p more h e =
     let o : ℕ = p / 7 in
     let low : s < 7 = mod-lt p (omega arith) in
     let z : 7 * o + s ≡ p = omega arith in
-    ap (λ (r : Read ℕ). then r (λ q ys. got (7 * q + s) ys)) (numbers_back ((most_in_one - s) / 7) o more (omega arith) (omega arith) e)
-    ∙ ap (λ q. got q more) z
+    then_got _ _ _ _ (numbers_back ((most_in_one - s) / 7) o more (omega arith) (omega arith) e) ∙ ap (λ q. got q more) z

@@ -3,10 +3,10 @@ use Rattle.std.proofs.Common.{◌≡◌, ℕ, ◌≤◌, false, ltb, List, ◌++
 use Rattle.std.proofs.lemmas.Bool.{and_parts, ltb-true}
 use Rattle.score.specs.Music.{length_end}
 use Rattle.score.specs.Promise.{field}
-use Rattle.words.specs.Words.{Read, got, then, begins_with_digit, spaced_number, most_in_one, most_in_two, most_in_four}
-use Rattle.notation.specs.Notation.{heard_on, sound_text}
+use Rattle.words.specs.Words.{got, begins_with_digit, most_in_one, most_in_two, most_in_four}
+use Rattle.notation.specs.Notation.{sound_text}
 use Rattle.text_laws.specs.Back.{SoundsBack}
-use Rattle.text_laws.proofs.Numbers.{numbers_back, spaced_back}
+use Rattle.text_laws.proofs.Numbers.{then_got, numbers_back, spaced_back}
 
 -- the text of a sound, and more, from its front on
 opened : (v s d t more : List ℕ) → (v ++ (codes " " ++ (s ++ (codes " " ++ (d ++ (codes " " ++ t)))))) ++ more ≡ v ++ (codes " " ++ (s ++ (codes " " ++ (d ++ (codes " " ++ (t ++ more))))))
@@ -25,11 +25,10 @@ module _ (v s d t : ℕ) (more : List ℕ) (hv : v ≤ most_in_one) (hs : s ≤ 
   pub sound_read : sound_text (decimal v ++ start_text) ≡ got (v, record { start = s; long = d; high = t }) more
   unfolding begins_with_digit
   sound_read =
-      ap (λ (r : Read ℕ). then r (λ w ys. heard_on w ys)) (numbers_back most_in_one v start_text hv (omega arith) refl)
-      ∙ ap (λ (r : Read ℕ). then r (λ a ys. then (spaced_number most_in_two ys) (λ b zs. then (spaced_number most_in_one zs) (λ c us. got (v, record { start = a; long = b; high = c }) us))))
-      (spaced_back most_in_four s length_text hs (omega arith) refl)
-      ∙ ap (λ (r : Read ℕ). then r (λ b zs. then (spaced_number most_in_one zs) (λ c us. got (v, record { start = s; long = b; high = c }) us))) (spaced_back most_in_two d tone_text hd (omega arith) refl)
-      ∙ ap (λ (r : Read ℕ). then r (λ c us. got (v, record { start = s; long = d; high = c }) us)) (spaced_back most_in_one t more ht (omega arith) e)
+      then_got _ _ _ _ (numbers_back most_in_one v start_text hv (omega arith) refl)
+      ∙ then_got _ _ _ _ (spaced_back most_in_four s length_text hs (omega arith) refl)
+      ∙ then_got _ _ _ _ (spaced_back most_in_two d tone_text hd (omega arith) refl)
+      ∙ then_got _ _ _ _ (spaced_back most_in_one t more ht (omega arith) e)
 
 pub sounds_back : SoundsBack
 sounds_back x more h e =

@@ -4,19 +4,18 @@ use Rattle.std.proofs.lemmas.Bool.{and_parts, ltb-true, leb-true, eqb-false, ne_
 use Rattle.score.specs.Music.{pick, places, length_end}
 use Rattle.score.specs.Print.{bar, head, rest}
 use Rattle.score.proofs.Picks.{pick_false}
-use Rattle.words.specs.Words.{Read, got, stuck, then, or_else, is_digit, begins_with_digit, strip, one_of, most_in_two}
+use Rattle.words.specs.Words.{got, stuck, or_else, is_digit, begins_with_digit, strip, one_of, most_in_two}
 use Rattle.score.specs.Spelling.{letter, mark}
-use Rattle.notation.specs.declared.Kind.{Kind}
 use Rattle.notation.specs.declared.Kind.TheVariants.{BarLine, Head}
-use Rattle.notation.specs.Notation.{kind, sign_mark, step, tie_in, tie, value, head_on, symbol_on, symbol_text}
+use Rattle.notation.specs.Notation.{kind, sign_mark, step, tie_in, tie, value, head_on, symbol_text}
 use Rattle.text_laws.specs.Back.{ended, SymbolsBack}
 use Rattle.text_laws.proofs.Cases.{six, seven, digit_range}
-use Rattle.text_laws.proofs.Numbers.{decimal_digit, numbers_back, place_back}
+use Rattle.text_laws.proofs.Numbers.{then_got, decimal_digit, numbers_back, place_back}
 
 -- a head begins neither as a bar line nor as a rest: behind the step b there is a digit
 step_b : (xs : List ℕ) → begins_with_digit xs ≡ true → kind (codes "b" ++ xs) ≡ got Head (codes "b" ++ xs)
 unfolding begins_with_digit kind one_of strip
-step_b [] h = absurd (let z : ◌≡◌ {A = ℕ} 0 1 = cc in omega arith)
+step_b [] h = cc
 step_b (x ∷ xs) h =
     let r = digit_range x h in
     let e : eqb 97 x ≡ false = ne_eqb 97 x (omega arith) in
@@ -44,8 +43,8 @@ step_read s xs h = seven (λ n. step (letter n ++ xs) ≡ got n xs) refl refl re
 -- a symbol has ended where neither a digit nor a tie follows
 neither : (a b : Bool) → not (a || b) ≡ true → (a ≡ false) × (b ≡ false)
 neither false false e = (refl, refl)
-neither false true e = absurd (let z : ◌≡◌ {A = ℕ} 0 1 = cc in omega arith)
-neither true b e = absurd (let z : ◌≡◌ {A = ℕ} 0 1 = cc in omega arith)
+neither false true e = cc
+neither true b e = cc
 
 ended_digit : (more : List ℕ) → ended more ≡ true → begins_with_digit more ≡ false
 unfolding begins_with_digit
@@ -91,16 +90,15 @@ module _ (p sign v : ℕ) (tied : Bool) (more : List ℕ) (hp : p < places) (hs 
   head_read : head_on sign s octave_text ≡ got (head p sign v tied) more
   unfolding begins_with_digit
   head_read =
-      ap (λ (r : Read ℕ). then r (λ q ys. then (value ys) (λ w zs. then (tie zs) (λ t us. got (head q sign w t) us))))
-      (place_back p (codes ":" ++ (decimal v ++ tie_text)) hp refl)
-      ∙ ap (λ (r : Read ℕ). then r (λ w zs. then (tie zs) (λ t us. got (head p sign w t) us))) value_read
-      ∙ ap (λ (r : Read Bool). then r (λ t us. got (head p sign v t) us)) (tie_read tied more e)
+      then_got _ _ _ _ (place_back p (codes ":" ++ (decimal v ++ tie_text)) hp refl)
+      ∙ then_got _ _ _ _ value_read
+      ∙ then_got _ _ _ _ (tie_read tied more e)
 
   head_back : symbol_text (mark sign ++ (letter s ++ octave_text)) ≡ got (head p sign v tied) more
   head_back =
-      ap (λ (r : Read Kind). then r (λ k ys. symbol_on k ys)) (kind_head sign s octave_text hs low (decimal_digit o _ (omega arith)))
-      ∙ ap (λ (r : Read ℕ). then r (λ i ys. then (step ys) (λ q zs. head_on i q zs))) (mark_read sign s octave_text hs low)
-      ∙ ap (λ (r : Read ℕ). then r (λ q zs. head_on sign q zs)) (step_read s octave_text low)
+      then_got _ _ _ _ (kind_head sign s octave_text hs low (decimal_digit o _ (omega arith)))
+      ∙ then_got _ _ _ _ (mark_read sign s octave_text hs low)
+      ∙ then_got _ _ _ _ (step_read s octave_text low)
       ∙ head_read
 
 opened : (m l o v t more : List ℕ) → (m ++ (l ++ (o ++ (codes ":" ++ (v ++ t))))) ++ more ≡ m ++ (l ++ (o ++ (codes ":" ++ (v ++ (t ++ more)))))
@@ -108,7 +106,7 @@ opened m l o v t more = simp append_assoc
 
 rest_back : (v : ℕ) (more : List ℕ) → v ≤ most_in_two → ended more ≡ true → symbol_text (codes "r" ++ (decimal v ++ more)) ≡ got (rest v) more
 unfolding kind one_of strip
-rest_back v more h e = ap (λ (r : Read ℕ). then r (λ w us. got (rest w) us)) (numbers_back most_in_two v more h (omega arith) (ended_digit more e))
+rest_back v more h e = then_got _ _ _ _ (numbers_back most_in_two v more h (omega arith) (ended_digit more e))
 
 bar_back : (more : List ℕ) → symbol_text (codes "bar" ++ more) ≡ got bar more
 unfolding kind one_of strip

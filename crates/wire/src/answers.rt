@@ -6,7 +6,7 @@ ghost use Rattle.score.specs.Meaning.{refusal_meant};
 ghost use Rattle.wire.specs.Bytes.{symbols_head, sounds_head, said_bytes, answer_bytes};
 ghost use Rattle.wire.specs.Reading.{number_of, refusal_of, said_of};
 
-use super::write_fields;
+use super::{write_fields, write_row};
 use score::{Answer, Refusal};
 
 /// Writes what is said first in an answer, and returns how many bytes that is; symbols or sounds may stand behind already.
@@ -20,8 +20,7 @@ pub fn write_answer(out: &mut [u8], answer: Answer) -> usize
         Answer::Done => write_fields(out, 0, &[]),
         Answer::Refused { number, place } => {
             let [a, b, c, d] = place.to_le_bytes();
-            out[0..6].copy_from_slice(&[1, number, a, b, c, d]);
-            6
+            write_row(out, &[1, number, a, b, c, d])
         }
         Answer::Symbols { count } => write_fields(out, 2, &[count]),
         Answer::Sounds { count } => write_fields(out, 3, &[count]),
@@ -91,18 +90,9 @@ pub fn read_answer(bytes: &[u8]) -> Option<Answer>
     match *kind {
         0 => Some(Answer::Done),
         1 => read_refusal(rest),
-        2 => {
-            let count = read_number(rest)?;
-            Some(Answer::Symbols { count })
-        }
-        3 => {
-            let count = read_number(rest)?;
-            Some(Answer::Sounds { count })
-        }
-        4 => {
-            let number = read_number(rest)?;
-            Some(Answer::Number { number })
-        }
+        2 => read_number(rest).map(|count| Answer::Symbols { count }),
+        3 => read_number(rest).map(|count| Answer::Sounds { count }),
+        4 => read_number(rest).map(|number| Answer::Number { number }),
         _ => None,
     }
 }
@@ -125,8 +115,5 @@ fn read_refusal(bytes: &[u8]) -> Option<Answer>
 fn read_number(bytes: &[u8]) -> Option<u32>
     ensures { result ≡ number_of bytes.now }
 {
-    let [a, b, c, d, ..] = bytes else {
-        return None;
-    };
-    Some(u32::from_le_bytes([*a, *b, *c, *d]))
+    Some(u32::from_le_bytes(*bytes.first_chunk()?))
 }

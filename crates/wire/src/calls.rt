@@ -1,10 +1,10 @@
 //! Calls: how one is written, and which one bytes are.
-ghost use Rattle.std.specs.Prelude.{◌≡◌, ◌≤◌, ◌∷◌, ◌++◌, length, drop, slice_index};
+ghost use Rattle.std.specs.Prelude.{◌≡◌, ◌+◌, ◌≤◌, OnOk, ◌∷◌, ◌++◌, length, drop, slice_index};
 ghost use Rattle.score.specs.Meaning.{event_meant, call_meant};
 ghost use Rattle.wire.specs.Bytes.{four, event_bytes, call_bytes};
 ghost use Rattle.wire.specs.ReadingCalls.{read_as, read_call, fields, fields_and_event, four_at, field_at, event_at, end_at};
 
-use super::write_fields;
+use super::{write_fields, write_row};
 use score::{Call, Event, Refusal};
 
 /// Writes a call, and returns how many bytes that is.
@@ -63,8 +63,7 @@ fn write_event(out: &mut [u8], event: Event) -> usize
             [1, 0, 0, low, high]
         }
     };
-    out[0..5].copy_from_slice(&row);
-    5
+    write_row(out, &row)
 }
 
 /// The call that bytes are, or the refusal whose place is the first byte that no call could have there, or their length where they end too early.
@@ -111,12 +110,12 @@ fn read_fields<const N: usize>(bytes: &[u8]) -> Result<[u32; N], Refusal>
     requires { N ≤ 3 }
     ensures { read_as (λ x. x) result ≡ fields N bytes.now }
 {
+    let mut rest = Rest { bytes, place: 1 };
     let mut fields = [0; N];
-    let mut rest = bytes;
-    for (i, field) in fields.iter_mut().enumerate() {
-        (*field, rest) = field_at(rest, 1 + 4 * i as u32)?;
+    for field in fields.iter_mut() {
+        *field = rest.field()?;
     }
-    end_at(rest, 1 + 4 * N as u32)?;
+    rest.end()?;
     Ok(fields)
 }
 
@@ -124,61 +123,76 @@ fn read_fields<const N: usize>(bytes: &[u8]) -> Result<[u32; N], Refusal>
 fn fields_and_event(bytes: &[u8]) -> Result<(u32, u32, Event), Refusal>
     ensures { read_as (λ x. (x.0, x.1, event_meant x.2)) result ≡ fields_and_event bytes.now }
 {
-    let (voice, rest) = field_at(bytes, 1)?;
-    let (index, rest) = field_at(rest, 5)?;
-    let (event, rest) = event_at(rest, 9)?;
-    end_at(rest, 14)?;
+    let mut rest = Rest { bytes, place: 1 };
+    let voice = rest.field()?;
+    let index = rest.field()?;
+    let event = rest.event()?;
+    rest.end()?;
     Ok((voice, index, event))
 }
 
-/// A number in four bytes, and what is behind it, of a row that goes on at a place.
-fn field_at(bytes: &[u8], place: u32) -> Result<(u32, &[u8]), Refusal>
-    requires { place ≤ 9 }
-    ensures { read_as (λ x. (x.0, x.1.now)) result ≡ field_at place bytes.now }
-{
-    let (four, rest) = four_at(bytes, place)?;
-    Ok((u32::from_le_bytes(four), rest))
+/// What is left to read of a call, and the place where it begins.
+#[derive(Drop)]
+struct Rest<'a> {
+    bytes: &'a [u8],
+    place: u32,
 }
 
-/// An event, and what is behind it; of a silence two bytes are not looked at.
-fn event_at(bytes: &[u8], place: u32) -> Result<(Event, &[u8]), Refusal>
-    requires { place ≤ 9 }
-    ensures { read_as (λ x. (event_meant x.0, x.1.now)) result ≡ event_at place bytes.now }
-{
-    let [kind @ (0 | 1), fields @ ..] = bytes else {
-        return Err(Refusal::Unreadable(place));
-    };
-    let ([degree, alteration, low, high], rest) = four_at(fields, place + 1)?;
-    let length = u16::from_le_bytes([low, high]);
-    let event = if *kind == 0 {
-        Event::Note {
-            place: degree,
-            alteration,
-            length,
-        }
-    } else {
-        Event::Silence { length }
-    };
-    Ok((event, rest))
-}
+impl Rest<'_> {
+    /// A number in four bytes.
+    fn field(&mut self) -> Result<u32, Refusal>
+        requires { self.old.place ≤ 10 }
+        ensures read { read_as (λ x. (x, self.new.bytes.now)) result ≡ field_at self.old.place self.old.bytes.now }
+        ensures next { OnOk result (self.new.place ≡ self.old.place + 4) }
+    {
+        Ok(u32::from_le_bytes(self.four()?))
+    }
 
-/// The next four bytes, and what is behind them.
-fn four_at(bytes: &[u8], place: u32) -> Result<([u8; 4], &[u8]), Refusal>
-    requires { place ≤ 10 }
-    ensures { read_as (λ x. (slice_index x.0 0, slice_index x.0 1, slice_index x.0 2, slice_index x.0 3, x.1.now)) result ≡ four_at place bytes.now }
-{
-    let Some((four, rest)) = bytes.split_first_chunk() else {
-        return Err(Refusal::Unreadable(place + bytes.len() as u32));
-    };
-    Ok((*four, rest))
-}
+    /// An event; of a silence two bytes are not looked at.
+    fn event(&mut self) -> Result<Event, Refusal>
+        requires { self.old.place ≤ 9 }
+        ensures read { read_as (λ x. (event_meant x, self.new.bytes.now)) result ≡ event_at self.old.place self.old.bytes.now }
+        ensures next { OnOk result (self.new.place ≡ self.old.place + 5) }
+    {
+        let [kind @ (0 | 1), fields @ ..] = self.bytes else {
+            return Err(Refusal::Unreadable(self.place));
+        };
+        self.bytes = fields;
+        self.place += 1;
+        let [degree, alteration, low, high] = self.four()?;
+        let length = u16::from_le_bytes([low, high]);
+        Ok(if *kind == 0 {
+            Event::Note {
+                place: degree,
+                alteration,
+                length,
+            }
+        } else {
+            Event::Silence { length }
+        })
+    }
 
-/// Nothing more at a place.
-fn end_at(bytes: &[u8], place: u32) -> Result<(), Refusal>
-    ensures { read_as (λ x. x) result ≡ end_at place bytes.now tt }
-{
-    let [] = bytes else {
-        return Err(Refusal::Unreadable(place));
-    };
-    Ok(())
+    /// The next four bytes.
+    fn four(&mut self) -> Result<[u8; 4], Refusal>
+        requires { self.old.place ≤ 10 }
+        ensures read { read_as (λ x. (slice_index x 0, slice_index x 1, slice_index x 2, slice_index x 3, self.new.bytes.now)) result ≡ four_at self.old.place self.old.bytes.now }
+        ensures next { OnOk result (self.new.place ≡ self.old.place + 4) }
+    {
+        let Some((four, rest)) = self.bytes.split_first_chunk() else {
+            return Err(Refusal::Unreadable(self.place + self.bytes.len() as u32));
+        };
+        self.bytes = rest;
+        self.place += 4;
+        Ok(*four)
+    }
+
+    /// Nothing more.
+    fn end(&self) -> Result<(), Refusal>
+        ensures { read_as (λ x. x) result ≡ end_at self.now.place self.now.bytes.now tt }
+    {
+        let [] = self.bytes else {
+            return Err(Refusal::Unreadable(self.place));
+        };
+        Ok(())
+    }
 }

@@ -10,6 +10,7 @@ ghost use Rattle.wire.specs.Reading.{symbol_of, sound_of};
 ghost use Rattle.wire.specs.Faithful.{Back};
 ghost use Rattle.wire.specs.Items.{length_symbol, symbols_back, sounds_back};
 
+use super::write_row;
 use score::{Sound, Symbol};
 
 /// What a row of bytes has one after the other, in as many bytes each.
@@ -78,8 +79,7 @@ impl Item for Symbol {
                 [3, 0, 0, low, high]
             }
         };
-        out[0..5].copy_from_slice(&row);
-        5
+        write_row(out, &row)
     }
 
     fn read(bytes: &[u8]) -> Option<Symbol> {
@@ -124,8 +124,7 @@ impl Item for Sound {
     fn write(self, out: &mut [u8]) -> usize {
         let [a, b, c, d] = self.start.to_le_bytes();
         let [low, high] = self.length.to_le_bytes();
-        out[0..8].copy_from_slice(&[self.voice, self.tone, a, b, c, d, low, high]);
-        8
+        write_row(out, &[self.voice, self.tone, a, b, c, d, low, high])
     }
 
     fn read(bytes: &[u8]) -> Option<Sound> {

@@ -16,6 +16,16 @@ pub use answers::{
 pub use calls::{read_call, write_call};
 pub use items::{Item, read_sound, read_symbol, write_sound, write_symbol};
 
+/// Writes a row over the first bytes, and returns how many that is.
+fn write_row(out: &mut [u8], row: &[u8]) -> usize
+    requires { length row.now ≤ length out.old }
+    ensures wrote { out.new ≡ row.now ++ drop result out.old }
+    ensures many { result ≡ length row.now }
+{
+    out[..row.len()].copy_from_slice(row);
+    row.len()
+}
+
 /// Writes the number of a call, or the kind of an answer, and numbers in four bytes each.
 fn write_fields(out: &mut [u8], kind: u8, fields: &[u32]) -> usize
     requires { 4 * length fields.now + 1 ≤ length out.old }

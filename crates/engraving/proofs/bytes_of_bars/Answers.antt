@@ -1,25 +1,32 @@
 -- Each turn passes one symbol.
-use Rattle.std.proofs.Common.{drop, sym, ◌∙◌, arith, length-drop}
+use Rattle.std.proofs.Common.{◌≡◌, ◌+◌, length, sym, ap, arith, length-append}
 use Rattle.std.proofs.lemmas.Bool.{eq-eqb, ne_eqb}
+use Rattle.std.specs.Slice.Iter.{chunks_exact_rest}
 use Rattle.score.proofs.Picks.{pick_true, pick_false}
 use Rattle.engraving.proofs.Parts.{bars_on, bars_end, bars_none}
 use Rattle.engraving.proofs.bytes_of_bars.Goals as goal
-use Rattle.engraving.proofs.bytes_of_bars.Goals.{then-page-at-eq-BAR_LINE, else-page-at-eq-BAR_LINE}
 
-pub loop-more-preserved : goal.loop-more-preserved
-loop-more-preserved c =
-    let e = bars_on c.args.page.now c.loop-more.at c.loop-more.more c.if-page-at-eq-BAR_LINE.more (omega arith) (omega arith) (elim c.if-page-at-eq-BAR_LINE.branch [
-      | then-page-at-eq-BAR_LINE w ↦ w.more-is ∙ sym (pick_true _ _ _ (eq-eqb _ 0 w.if-page-at-eq-BAR_LINE.true))
-      | else-page-at-eq-BAR_LINE w ↦ w.more-is ∙ sym (pick_false _ _ _ (ne_eqb _ 0 w.if-page-at-eq-BAR_LINE.false))
-    ]) in
-    (omega (arith, e), omega arith)
+pub returns-then-more-eq0-clause-is : goal.returns-then-more-eq0-clause-is
+returns-then-more-eq0-clause-is c =
+    let e = bars_none c.loop-passed.more (chunks_exact_rest c.loop-passed.passed-iterator.iter) c.if-more-eq0.true in
+    omega (arith, e, c.in-Some.ensures.steps.1)
 
-pub returns-else-page-at-ge5 : goal.returns-else-page-at-ge5
-returns-else-page-at-ge5 c =
-    let e = bars_end c.loop-more.more (drop c.loop-more.at c.args.page.now) (simp length-drop (omega arith)) in
-    record { is = omega (arith, e); within = omega arith }
+pub loop-passed-preserved-then-symbol-eq-BAR_LINE : goal.loop-passed-preserved-then-symbol-eq-BAR_LINE
+loop-passed-preserved-then-symbol-eq-BAR_LINE c =
+    let s = c.in-Some.ensures.steps in
+    let e = bars_on _ c.in-Some.symbol.now (chunks_exact_rest c.next.new.self.iter) c.loop-passed.more _ s.0.1.0 (omega arith) (omega arith) (sym (pick_true _ _ _ (eq-eqb _ 0 c.if-symbol-eq-BAR_LINE.true))) in
+    let l : length (chunks_exact_rest c.loop-passed.passed-iterator.iter) ≡ 5 + length (chunks_exact_rest c.next.new.self.iter) = omega (arith, ap length s.0.1.0, length-append c.in-Some.symbol.now (chunks_exact_rest c.next.new.self.iter)) in
+    (c.in-Some.ensures.goes.keeps, tt, omega arith, omega arith, omega (arith, e))
 
-pub returns-after-loop-more : goal.returns-after-loop-more
-returns-after-loop-more c =
-    let e = bars_none c.loop-more.more (drop c.loop-more.at c.args.page.now) (omega arith) in
-    record { is = omega (arith, e); within = omega arith }
+pub loop-passed-preserved : goal.loop-passed-preserved
+loop-passed-preserved c =
+    let s = c.in-Some.ensures.steps in
+    let e = bars_on _ c.in-Some.symbol.now (chunks_exact_rest c.next.new.self.iter) c.loop-passed.more _ s.0.1.0 (omega arith) (omega arith) (sym (pick_false _ _ _ (ne_eqb _ 0 c.if-symbol-eq-BAR_LINE.false))) in
+    let l : length (chunks_exact_rest c.loop-passed.passed-iterator.iter) ≡ 5 + length (chunks_exact_rest c.next.new.self.iter) = omega (arith, ap length s.0.1.0, length-append c.in-Some.symbol.now (chunks_exact_rest c.next.new.self.iter)) in
+    (c.in-Some.ensures.goes.keeps, tt, omega arith, omega arith, omega (arith, e))
+
+pub returns-clause-is : goal.returns-clause-is
+returns-clause-is c =
+    let l = c.in-None.ensures.steps.0.1.0 in
+    let e = bars_end c.loop-passed.more (chunks_exact_rest c.loop-passed.passed-iterator.iter) (omega (arith, l)) in
+    omega (arith, e, l)

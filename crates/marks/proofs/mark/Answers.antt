@@ -1,21 +1,18 @@
--- One word more of the range is marked, and at last all of them.
-use Rattle.std.proofs.Common.{◌≡◌, ℕ, ◌-◌, ◌*◌, ◌/◌, ◌^◌, ◌≤◌, min, List, length, set, sym, ap, ◌∙◌, arith, pow_pos, pow_mono}
-use Rattle.marks.specs.Marked.{low, mark_word}
-use Rattle.marks.proofs.Bits.{marked_empty, marked_more}
+-- At last all words have the bits of the range.
+use Rattle.std.proofs.Common.{◌≡◌, ℕ, ◌+◌, ◌-◌, ◌/◌, ◌^◌, ◌≤◌, length, drop, length-take, length-drop, refl, arith, pow_mono}
+use Rattle.marks.specs.Marked.{low}
+use Rattle.marks.proofs.Bits.{marked_part}
 use Rattle.marks.proofs.mark.Goals as goal
 
-pub loop-word-init : goal.loop-word-init
-loop-word-init c = c.requires.0 ∙ sym (marked_empty c.args.from (min c.args.to (32 * (c.args.from / 32))) (length c.args.marks.now) (omega arith))
+pub overflow_sub-bits : goal.overflow_sub-bits
+overflow_sub-bits c =
+    let w : ℕ = c.args.from / 32 + c.loop-i.i in
+    let le : 2 ^ low c.args.from w ≤ 2 ^ low c.args.to w = pow_mono (omega arith) in
+    omega (arith, c.bits_below.ensures, c.bits_below-in-loop-i.ensures)
 
-pub overflow_sub-marks : goal.overflow_sub-marks
-overflow_sub-marks c =
-    let le : 2 ^ low c.args.from c.loop-word.word ≤ 2 ^ low c.args.to c.loop-word.word = pow_mono (omega arith) in
-    omega (arith, c.bits_below.ensures, c.bits_below-in-loop-word.ensures)
-
-pub loop-word-preserved : goal.loop-word-preserved
-loop-word-preserved c =
-    let n : ℕ = c.bits_below.result - c.bits_below-in-loop-word.result in
-    let word : n ≡ mark_word c.args.from c.args.to c.loop-word.word =
-    omega (arith, c.bits_below.ensures, c.bits_below-in-loop-word.ensures, pow_pos (low c.args.from c.loop-word.word), pow_pos (low c.args.to c.loop-word.word)) in
-    ap (λ (ws : List ℕ). set ws c.loop-word.word n) c.loop-word.invariant
-    ∙ marked_more c.args.from c.args.to (length c.args.marks.now) c.loop-word.word n (omega arith) word
+pub returns : goal.returns
+returns c =
+    let part : length c.loop-i.bits-items ≡ c.args.to / 32 + 1 - c.args.from / 32 =
+    omega (arith, c.requires.1.1, length-take {A = ℕ} (c.args.to / 32 + 1 - c.args.from / 32) (drop (c.args.from / 32) c.args.marks.now), length-drop {A = ℕ} (c.args.from / 32) c.args.marks.now) in
+    marked_part c.args.from c.args.to (length c.args.marks.now) (c.args.to / 32 + 1 - c.args.from / 32) c.args.marks.now c.loop-i.bits-items
+    c.requires.0 c.requires.1.0 c.requires.1.1 refl part (λ q b. c.loop-i.invariant q (omega arith))

@@ -1,7 +1,7 @@
--- The part of the range that lies before the word is marked.
-use Rattle.std.proofs.Common.{◌≡◌, ◌*◌, min, length}
-use Rattle.marks.specs.Marked.{marked}
+-- The words before the index have the bits of the range.
+use Rattle.std.proofs.Common.{◌≡◌, ℕ, ◌+◌, ◌<◌, get_or}
+use Rattle.marks.specs.Marked.{mark_word}
 use Rattle.marks.proofs.mark.Given as goal
 
-abbrev pub invariant-loop-word : goal.invariant-loop-word
-invariant-loop-word l = l.marks ≡ marked l.from (min l.to (32 * l.word)) (length l.initial.marks)
+abbrev pub invariant-loop-i : goal.invariant-loop-i
+invariant-loop-i l = (k : ℕ) → k < l.i → get_or l.bits-items k 0 ≡ mark_word l.from l.to (l.first + k)

@@ -18,7 +18,10 @@ passed c = checked c.args.rows c.args.layout _ _ c.in_ok-bars.bars c.in_ok-bars.
 pub engrave-bytes-requires : goal.engrave-bytes-requires
 engrave-bytes-requires c =
     let k = passed (goal.at.engrave-bytes-requires c).In_ok-bars in
-    record { ready = k.ready; room = (room_for c.args.rows c.args.layout _ _ _ k).0 }
+    (room_for c.args.rows c.args.layout _ _ _ k).0
+
+pub invariant_of-voice : goal.invariant_of-voice
+invariant_of-voice c = record { ready = (passed (goal.at.invariant_of-voice c).In_ok-bars).ready }
 
 -- the part of the page that is printed
 part : (c : After-engrave-bytes) → take (c.engrave-bytes.result - 0) c.engrave-bytes.new.out ≡ shown c.args.layout.key c.args.layout.bar (voice_in c.args.rows) 0 c.in_ok-bars.bars

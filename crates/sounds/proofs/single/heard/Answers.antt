@@ -6,6 +6,6 @@ use Rattle.sounds.proofs.single.heard.Goals as goal
 pub returns : goal.returns
 returns c =
     let s = c.in_ok-span.ensures in
-    let r = c.rows.ensures in
+    let r = c.rows-rows.ensures in
     let f = from_words _ c.args.score.holds s r.places r.alterations r.lengths refl in
     (f.0, f.1, refl, s.there, f.2)

@@ -4,8 +4,10 @@ use Rattle.wire.specs.ReadingCalls.{fields_at}
 use Rattle.wire.proofs.Parts.{ahead}
 use Rattle.wire.proofs.calls.read_fields.Given as goal
 
-abbrev pub invariant-loop-i : goal.invariant-loop-i
-invariant-loop-i g l = record {
-  long : length l.field-items ≡ g.row.N;
-  read : ahead (take l.i l.field-items) (fields_at (1 + 4 * l.i) (g.row.N - l.i) l.rest) ≡ fields_at 1 g.row.N l.bytes;
-}
+abbrev pub invariant-loop-field : goal.invariant-loop-field
+invariant-loop-field g l =
+    record {
+      long : length l.field-items ≡ g.row.N;
+      next : l.rest.place ≡ 1 + 4 * l.field-index;
+      read : ahead (take l.field-index l.field-items) (fields_at l.rest.place (g.row.N - l.field-index) l.rest.bytes.now) ≡ fields_at 1 g.row.N l.bytes;
+    }

@@ -1,22 +1,19 @@
 -- Each turn of a loop writes one symbol or passes to the next event; what is owed changes as `Turns` says.
-use Rattle.std.proofs.Common.{◌≡◌, ℕ, suc, ◌+◌, ◌-◌, ◌<◌, ◌≤◌, true, eqb, ltb, List, ◌∷◌, ◌++◌, length, slice_index, take, drop, Option, sym, refl, ap, ap₂, ◌∙◌, arith}
+use Rattle.std.proofs.Common.{◌≡◌, ℕ, suc, ◌+◌, ◌-◌, ◌≤◌, eqb, List, ◌∷◌, ◌++◌, length, get_or, slice_index, take, drop, Option, sym, refl, ap, ap₂, ◌∙◌, arith}
 use Rattle.std.proofs.lemmas.Bool.{eqb-false}
-use Rattle.score.specs.Music.{pick, places, Event, all_fine}
+use Rattle.score.specs.Music.{pick, places, Event}
 use Rattle.score.specs.Print.{Symbol, bar, pieces, lesser}
 use Rattle.score.proofs.Picks.{pick_both}
 use Rattle.laws.proofs.Laid.{lesser_both}
 use Rattle.keys.specs.Held.{sign_needed}
-use Rattle.engraving.specs.Shown.{asked_for}
 use Rattle.laws.proofs.Rows.{Words}
 use Rattle.wire.specs.Bytes.{symbol_bytes}
 use Rattle.keys.specs.Held.{sign_number}
-use Rattle.keys.proofs.Holding.{length_holding}
-use Rattle.rows.specs.Rows.{event_in, voice_in}
 use Rattle.engraving.proofs.Page.{starts, owing, enter, leave, room, write, all}
-use Rattle.engraving.proofs.Turns.{in_event, in_voice, times_three, starts_voice, Value, value_turn, values_turn, line_turn, next_bar, begins_bar, no_bar, First, first, pass_turn, reach_turn, begin_turn, end_turn, no_event, event_next, event_none}
+use Rattle.engraving.proofs.Turns.{in_event, in_voice, times_three, starts_voice, Value, value_turn, values_turn, line_turn, next_bar, begins_bar, no_bar, events_from, row_at, turn, pass_turn, reach_turn, begin_turn, end_turn, no_event}
 use Rattle.engraving.proofs.voice.Voice.print_bars.Goals as goal
 use Rattle.engraving.proofs.voice.Voice.print_bars.Goals.{then-gone-eq0, else-gone-eq0}
-use Rattle.engraving.proofs.voice.Voice.print_bars.Goals.{In-Some, Joined-gone-eq0, In-Some-value, In-None-value, Then-begun-layout}
+use Rattle.engraving.proofs.voice.Voice.print_bars.Goals.{In-Some, In-None, Then-begun-layout}
 
 -- a sign is that of an alteration
 sign_small : (hs : List ℕ) (p a : ℕ) → {d : ℕ} → Words p a d → sign_needed hs p a ≤ 5
@@ -25,69 +22,49 @@ sign_small hs p a w =
     (λ e. pick_both (λ (x : ℕ). x ≤ 5) (eqb (slice_index hs p) a) 0 (suc a) (λ _. omega arith) (λ _. omega (arith, w.alters (omega (arith, w.place, eqb-false p places e)))))
 
 pub events-init : goal.events-init
-events-init c =
-    let i = ap voice_in c.into_iter-row-iterator.ensures.into_iter_gives in
-    let f = ap all_fine i ∙ c.args.self.ready.fine in (
-      starts _ _ _ (starts_voice c.args.self.layout.key c.args.self.layout.bar c.args.from c.args.count c.args.holds.now _ (omega (arith, c.args.self.ready.some)) c.args.self.ready.thirds f c.requires.key ∙ ap (λ (es : List Event). asked_for c.args.self.layout.key c.args.self.layout.bar es c.args.from c.args.count) i),
-      omega (arith, c.args.self.ready.some),
-      refl,
-      omega arith,
-      times_three c.args.from c.args.self.layout.bar c.args.self.ready.thirds,
-      f,
-      omega arith,
-    )
-
--- the event of this turn, which can be written
-event : (c : In-Some) → voice_in c.events.row-iterator ≡ event_in c.in-Some.row ∷ voice_in c.next.new.self
-event c = event_next c.events.row-iterator c.next.new.self c.in-Some.row c.in-Some.ensures.steps
-
-fine : (c : In-Some) → all_fine (event_in c.in-Some.row ∷ voice_in c.next.new.self) ≡ true
-fine c = sym (ap all_fine (event c)) ∙ c.events.invariant.5
-
-words : (c : In-Some) → Words c.in-Some.row.place c.in-Some.row.alteration c.in-Some.row.length
-words c = (first _ _ (fine c)).words
-
--- what is owed before it
-owes : (c : In-Some) → in_voice c.args.self.layout.key c.args.self.layout.bar c.events.skip c.events.begun c.events.holds (voice_in c.events.row-iterator) c.events.more
-    ≡ in_voice c.args.self.layout.key c.args.self.layout.bar c.events.skip c.events.begun c.events.holds (event_in c.in-Some.row ∷ voice_in c.next.new.self) c.events.more
-owes c = ap (λ (es : List Event). in_voice c.args.self.layout.key c.args.self.layout.bar c.events.skip c.events.begun c.events.holds es c.events.more) (event c)
+events-init c = (
+  starts _ _ _ (starts_voice c.args.self.layout.key c.args.self.layout.bar c.args.from c.args.count c.args.holds.now _ (omega (arith, c.args.self.ready.some)) c.args.self.ready.thirds c.args.self.ready.fine c.requires.key),
+  omega (arith, c.args.self.ready.some),
+  refl,
+  omega arith,
+  times_three c.args.from c.args.self.layout.bar c.args.self.ready.thirds,
+  omega arith,
+)
 
 pub events-preserved-then-left-eq0 : goal.events-preserved-then-left-eq0
 events-preserved-then-left-eq0 c =
-    let d = (goal.at.events-preserved-then-left-eq0 c).In-Some in
-    let w = words d in (
-      owing _ c.events.invariant.0 (owes d ∙ pass_turn _ _ _ _ _ _ _ _ _ c.min-gone.ensures c.if-left-eq0.true),
+    let t = turn c.args.self.rows c.args.self.layout c.events.i c.args.self.ready c.events-test.true in (
+      owing _ c.events.invariant.0 (ap (λ (es : List Event). in_voice c.args.self.layout.key c.args.self.layout.bar c.events.skip c.events.begun c.events.holds es c.events.more) t.event ∙ pass_turn _ _ _ _ _ _ (row_at c.args.self.rows c.events.i) _ _ c.min-gone.ensures c.if-left-eq0.true),
       omega arith,
       omega arith,
       omega arith,
-      omega (arith, w.three, c.min-gone.ensures),
-      (first _ _ (fine d)).others,
+      omega (arith, t.words.three, c.min-gone.ensures),
       omega arith,
     )
 
 pub sign_of-sign-requires : goal.sign_of-sign-requires
-sign_of-sign-requires c = (words (goal.at.sign_of-sign-requires c).In-Some).place
+sign_of-sign-requires c = (turn c.args.self.rows c.args.self.layout c.events.i c.args.self.ready c.events-test.true).words.place
 
 pub bars-init : goal.bars-init
 bars-init c =
-    let d = (goal.at.bars-init c).In-Some in
-    let x = words d in
-    let f = fine d in
+    let t = turn c.args.self.rows c.args.self.layout c.events.i c.args.self.ready c.events-test.true in
+    let x = t.words in
+    let e = ap (λ (es : List Event). in_voice c.args.self.layout.key c.args.self.layout.bar c.events.skip c.events.begun c.events.holds es c.events.more) t.event in
     elim c.if-gone-eq0.branch [
       | then-gone-eq0 w ↦
           let s = w.sign_of-sign.ensures in (
-            enter (owing _ c.events.invariant.0 (owes d ∙ begin_turn _ _ _ _ _ _ _ _ _ _ _ f c.min-gone.ensures w.if-gone-eq0.true (omega arith) (omega arith)
+            enter (owing _ c.events.invariant.0 (e ∙ begin_turn _ _ _ _ _ _ _ _ (row_at c.args.self.rows c.events.i) _ _ t.fine c.min-gone.ensures w.if-gone-eq0.true (omega arith) (omega arith)
                 (ap sign_number w.sign-is ∙ s.sign) (w.holds-is ∙ s.holds))),
             omega arith,
             omega arith,
             omega (arith, w.if-gone-eq0.true, x.three),
-            omega (arith, ap sign_number w.sign-is ∙ s.sign, sign_small c.events.holds c.in-Some.row.place c.in-Some.row.alteration x),
+            omega (arith, ap sign_number w.sign-is ∙ s.sign, sign_small c.events.holds (get_or c.args.self.rows.places.now c.events.i 0) (get_or c.args.self.rows.alterations.now c.events.i 0) x),
             omega arith,
             omega arith,
             omega arith,
           )
       | else-gone-eq0 w ↦ (
-        enter (owing _ c.events.invariant.0 (owes d ∙ reach_turn _ _ _ _ _ _ _ _ _ c.min-gone.ensures c.if-left-eq0.false w.if-gone-eq0.false ∙ ap₂ (λ (hs : List ℕ) (s : Option ℕ). in_event c.args.self.layout.key c.args.self.layout.bar c.events.begun hs c.in-Some.row.place (sign_number s) (c.in-Some.row.length - c.min-gone.result) (voice_in c.next.new.self) c.events.more) (sym w.holds-is) (sym w.sign-is))),
+        enter (owing _ c.events.invariant.0 (e ∙ reach_turn _ _ _ _ _ _ (row_at c.args.self.rows c.events.i) _ _ c.min-gone.ensures c.if-left-eq0.false w.if-gone-eq0.false ∙ ap₂ (λ (hs : List ℕ) (s : Option ℕ). in_event c.args.self.layout.key c.args.self.layout.bar c.events.begun hs (get_or c.args.self.rows.places.now c.events.i 0) (sign_number s) (get_or c.args.self.rows.lengths.now c.events.i 0 - c.min-gone.result) (events_from c.args.self.rows (c.events.i + 1)) c.events.more) (sym w.holds-is) (sym w.sign-is))),
         omega arith,
         omega arith,
         omega (arith, x.three, c.min-gone.ensures, c.if-left-eq0.false),
@@ -99,37 +76,37 @@ bars-init c =
     ]
 
 pub symbol_of-requires-clause-place : goal.symbol_of-requires-clause-place
-symbol_of-requires-clause-place c = (words (goal.at.symbol_of-requires-clause-place c).In-Some).place
+symbol_of-requires-clause-place c = (turn c.args.self.rows c.args.self.layout c.events.i c.args.self.ready c.events-test.true).words.place
 
 -- a value and a bar line as they come next
-value : (c : In-Some-value) →
-    Value c.args.self.layout.key c.args.self.layout.bar c.values.begun c.bars.holds c.in-Some.row.place (sign_number c.values.sign) c.values.left c.in-Some-value.value (pieces c.next-in-values.new.self.0 c.next-in-values.new.self.0) (voice_in c.next.new.self) c.bars.more
+value : (c : In-Some) →
+    Value c.args.self.layout.key c.args.self.layout.bar c.values.begun c.bars.holds (get_or c.args.self.rows.places.now c.events.i 0) (sign_number c.values.sign) c.values.left c.in-Some.value (pieces c.next.new.self.0 c.next.new.self.0) (events_from c.args.self.rows (c.events.i + 1)) c.bars.more
 value c =
-    value_turn c.args.self.layout.key c.args.self.layout.bar c.values.begun c.bars.holds c.in-Some.row.place (sign_number c.values.sign) c.values.left c.in-Some-value.value _ _ _ c.bars.more
-    (omega arith) c.args.self.ready.thirds (omega arith) (omega arith) (omega arith) c.values.invariant.6 c.in-Some-value.ensures.steps
+    value_turn c.args.self.layout.key c.args.self.layout.bar c.values.begun c.bars.holds (get_or c.args.self.rows.places.now c.events.i 0) (sign_number c.values.sign) c.values.left c.in-Some.value _ _ _ c.bars.more
+    (omega arith) c.args.self.ready.thirds (omega arith) (omega arith) (omega arith) c.values.invariant.6 c.in-Some.ensures.steps
 
 line : (c : Then-begun-layout) →
-    in_event c.args.self.layout.key c.args.self.layout.bar c.values.begun c.bars.holds c.in-Some.row.place (sign_number c.values.sign) c.values.left (voice_in c.next.new.self) c.bars.more
-    ≡ bar ∷ next_bar c.args.self.layout.key c.args.self.layout.bar c.in-Some.row.place (sign_number c.values.sign) c.values.left (voice_in c.next.new.self) (c.bars.more - 1)
+    in_event c.args.self.layout.key c.args.self.layout.bar c.values.begun c.bars.holds (get_or c.args.self.rows.places.now c.events.i 0) (sign_number c.values.sign) c.values.left (events_from c.args.self.rows (c.events.i + 1)) c.bars.more
+    ≡ bar ∷ next_bar c.args.self.layout.key c.args.self.layout.bar (get_or c.args.self.rows.places.now c.events.i 0) (sign_number c.values.sign) c.values.left (events_from c.args.self.rows (c.events.i + 1)) (c.bars.more - 1)
 line c =
-    line_turn c.args.self.layout.key c.args.self.layout.bar c.values.begun c.bars.holds c.in-Some.row.place (sign_number c.values.sign) c.values.left _ c.bars.more
+    line_turn c.args.self.layout.key c.args.self.layout.bar c.values.begun c.bars.holds (get_or c.args.self.rows.places.now c.events.i 0) (sign_number c.values.sign) c.values.left _ c.bars.more
     (omega (arith, c.args.self.ready.some)) c.if-begun-layout.true (omega arith)
 
 pub overflow_sub-left-in-values : goal.overflow_sub-left-in-values
-overflow_sub-left-in-values c = (value (goal.at.overflow_sub-left-in-values c).In-Some-value).within
+overflow_sub-left-in-values c = (value (goal.at.overflow_sub-left-in-values c).In-Some).within
 
 pub overflow_add-begun : goal.overflow_add-begun
-overflow_add-begun c = let v = value (goal.at.overflow_add-begun c).In-Some-value in omega (arith, v.fits)
+overflow_add-begun c = let v = value (goal.at.overflow_add-begun c).In-Some in omega (arith, v.fits)
 
 pub symbol_of-requires-clause-value : goal.symbol_of-requires-clause-value
-symbol_of-requires-clause-value c = (value (goal.at.symbol_of-requires-clause-value c).In-Some-value).small
+symbol_of-requires-clause-value c = (value (goal.at.symbol_of-requires-clause-value c).In-Some).small
 
 pub write_symbol-at-requires : goal.write_symbol-at-requires
-write_symbol-at-requires c = room _ _ c.values.invariant.0 (value (goal.at.write_symbol-at-requires c).In-Some-value).owes (omega arith)
+write_symbol-at-requires c = room _ _ c.values.invariant.0 (value (goal.at.write_symbol-at-requires c).In-Some).owes (omega arith)
 
 pub values-preserved : goal.values-preserved
 values-preserved c =
-    let v = value (goal.at.values-preserved c).In-Some-value in (
+    let v = value (goal.at.values-preserved c).In-Some in (
       write _ _ c.write_symbol-at.new.out c.write_symbol-at.result c.values.invariant.0 v.owes (omega arith) c.write_symbol-at.ensures.many
           (c.write_symbol-at.ensures.wrote ∙ ap (λ (x : Symbol). symbol_bytes x ++ drop c.write_symbol-at.result (take (length c.values.out - c.values.at) (drop c.values.at c.values.out))) c.symbol_of.ensures),
       v.fits,
@@ -159,12 +136,12 @@ bars-preserved-then-begun-layout c =
     )
 
 -- behind the values of a bar, the bar is full or the event has ended
-over : (c : In-None-value) → lesser c.values.left (c.args.self.layout.bar - c.values.begun) ≡ 0
-over c = values_turn _ _ _ _ c.args.self.ready.thirds (omega arith) (omega arith) (omega arith) c.values.invariant.6 c.in-None-value.ensures.steps.0
+over : (c : In-None) → lesser c.values.left (c.args.self.layout.bar - c.values.begun) ≡ 0
+over c = values_turn _ _ _ _ c.args.self.ready.thirds (omega arith) (omega arith) (omega arith) c.values.invariant.6 c.in-None.ensures.steps.0
 
 pub bars-smaller : goal.bars-smaller
 bars-smaller c =
-    let o = over (goal.at.bars-smaller c).In-None-value in
+    let o = over (goal.at.bars-smaller c).In-None in
     let b = lesser_both c.values.left (c.args.self.layout.bar - c.values.begun) in
     omega arith
 
@@ -173,19 +150,18 @@ bars-preserved c = (leave c.bars.at c.values.invariant.0 c.bars.invariant.0.back
 
 pub events-preserved : goal.events-preserved
 events-preserved c =
-    let o = (first _ _ (fine (goal.at.events-preserved c).In-Some)).others in (
+    let o = (turn c.args.self.rows c.args.self.layout c.events.i c.args.self.ready c.events-test.true).others in (
       leave c.events.at (owing _ c.bars.invariant.0 (end_turn _ _ _ _ _ _ _ _ _ _ o (omega arith) (omega arith) (omega (arith, c.min-gone.ensures, c.if-left-eq0.false)))) c.events.invariant.0.back (omega arith),
       omega arith,
       omega arith,
       omega arith,
       omega (arith, c.min-gone.ensures, c.if-left-eq0.false),
-      o,
       omega arith,
     )
 
-pub returns-in-None : goal.returns-in-None
-returns-in-None c =
-    let a = all c.events.invariant.0 (no_event _ _ _ _ _ _ _ (event_none c.events.row-iterator c.in-None.ensures.steps.0)) in
+pub returns-after-events : goal.returns-after-events
+returns-after-events c =
+    let a = all c.events.invariant.0 (no_event _ _ _ _ _ c.args.self.rows c.events.i _ c.events-test.false c.args.self.ready.same_places) in
     record { wrote = a.0; many = a.1 }
 
 pub returns-then-more-eq0 : goal.returns-then-more-eq0

@@ -21,9 +21,9 @@ pub mark-cursors-requires-clause-empty : goal.mark-cursors-requires-clause-empty
 mark-cursors-requires-clause-empty c =
     slots_empty c.saturating_sub-used.result 512 (omega (arith, c.div_ceil-first.ensures, c.div_ceil.ensures, c.saturating_sub-used.ensures, c.requires.span))
 
-pub write-requires-clause-room : goal.write-requires-clause-room
-write-requires-clause-room c =
-    let all = ap length (whole (goal.at.write-requires-clause-room c).After-mark-cursors) in
+pub write-requires : goal.write-requires
+write-requires c =
+    let all = ap length (whole (goal.at.write-requires c).After-mark-cursors) in
     omega (arith, all, c.requires.room, few_together (score_in c.args.self) 0 c.args.from c.args.to)
 
 pub returns : goal.returns
