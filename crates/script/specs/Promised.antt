@@ -1,7 +1,7 @@
 -- What a script's answers have to do with the answers that are promised to calls: the statement is proved where a function names it. Assumes nothing.
 use Rattle.std.specs.Prelude.{◌≡◌, ℕ, true, List, map, Ok}
 use Rattle.score.specs.Calls.{Call, empty_voices, answers}
-use Rattle.session.specs.declared.Opening.{Opening}
+use Rattle.score.specs.declared.Opening.{Opening}
 use Rattle.session.specs.Session.{limits_for, layout_for}
 use Rattle.text.specs.Lines.{call_line}
 use Rattle.script.specs.Lines.{lines}

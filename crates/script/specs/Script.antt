@@ -3,7 +3,7 @@ use Rattle.std.specs.Prelude.{ℕ, Bool, ◌&&◌, List, [], ◌∷◌, ◌++◌
 use Rattle.score.specs.Music.{pick}
 use Rattle.score.specs.Calls.{Call, Answer, refused, Limits, Layout, Score, empty_voices, after, answer}
 use Rattle.wire.specs.Bytes.{each}
-use Rattle.session.specs.declared.Opening.{Opening}
+use Rattle.score.specs.declared.Opening.{Opening}
 use Rattle.session.specs.Session.{opens, limits_for, layout_for}
 use Rattle.text.specs.declared.Unfit.{Unfit}
 use Rattle.text.specs.Lines.{call_line, setting_line}

@@ -14,8 +14,8 @@ ghost use Rattle.script.specs.Desk.{score_words, line_answer_in, words_after, li
 use crate::lines::Lines;
 use crate::{SERVED_EVENTS, SERVED_VOICES};
 use answers::spell_answer;
-use score::{Call, Refusal};
-use session::{Opening, Sizes, call, open};
+use score::{Call, Opening, Refusal};
+use session::{Sizes, call, open};
 use std::alloc::Global;
 use text::read_call;
 use wire::write_call;
@@ -85,7 +85,7 @@ fn served(opening: Opening) -> Result<Sizes, Refusal>
     if opening.voices > SERVED_VOICES || opening.events > SERVED_EVENTS {
         return Err(Refusal::BadOpening);
     }
-    opening.sizes().ok_or(Refusal::BadOpening)
+    Sizes::of(opening).ok_or(Refusal::BadOpening)
 }
 
 /// Opens a score if it is one that is served, and answers all lines.
