@@ -1,5 +1,5 @@
 -- Lines that are answered one after the other by a session. Assumes nothing.
-use Rattle.std.proofs.Common.{◌≡◌, ℕ, Bool, true, false, List, [], ◌∷◌, ◌++◌, Ok, Err, Result, sym, refl, ap, ◌∙◌, append_assoc, arith}
+use Rattle.std.proofs.Common.{◌≡◌, ℕ, Bool, true, false, List, [], ◌∷◌, ◌++◌, Ok, Err, Result, sym, refl, ap, ◌∙◌, append_assoc}
 use Rattle.std.proofs.lemmas.List.{append-nil}
 use Rattle.score.specs.Music.{pick}
 use Rattle.score.specs.Calls.{Call, Answer, refused, Limits, Layout, Score, empty_voices}
@@ -71,10 +71,10 @@ one_line out new a e = e ∙ ap (λ (x : List ℕ). out ++ x) (sym (append-nil (
 -- what is served, and what is not
 pub picked_ok : {A E : Type 0} (b : Bool) (x y : A) (e : E) → Ok x ≡ pick b (Ok y) (Err e) → b ≡ true
 picked_ok true x y e h = refl
-picked_ok false x y e h = absurd (let z : ◌≡◌ {A = ℕ} 0 1 = cc in omega arith)
+picked_ok false x y e h = cc
 
 pub picked_err : {A E : Type 0} (b : Bool) (y : A) (d e : E) → Err d ≡ pick b (Ok y) (Err e) → (b ≡ false) × (d ≡ e)
-picked_err true y d e h = absurd (let z : ◌≡◌ {A = ℕ} 0 1 = cc in omega arith)
+picked_err true y d e h = cc
 picked_err false y d e h = (refl, cc)
 
 pub unserved : (o : Opening) (ls : List (List ℕ)) → serves o ≡ false → refused 3 1 ∷ [] ≡ opened_answers o ls

@@ -1,5 +1,5 @@
 -- The answers to lines that are all calls are the answers to these calls. Assumes nothing.
-use Rattle.std.proofs.Common.{◌≡◌, ℕ, List, [], ◌∷◌, map, Ok, Result, refl, ap, ◌∙◌, arith}
+use Rattle.std.proofs.Common.{◌≡◌, ℕ, List, [], ◌∷◌, map, Ok, Result, refl, ap, ◌∙◌}
 use Rattle.score.specs.Calls.{Call, Answer, Limits, Layout, Score, empty_voices, answers, answer, after}
 use Rattle.score.proofs.Picks.{pick_true}
 use Rattle.score.specs.declared.Opening.{Opening}
@@ -11,8 +11,8 @@ use Rattle.script.specs.Promised.{CallsAnswered}
 all_calls : (l : Limits) (y : Layout) (s : Score) (ls : List (List ℕ)) (cs : List Call) → map call_line ls ≡ map Ok cs → line_answers l y s ls ≡ answers l y s cs
 unfolding line_answers answers
 all_calls l y s [] [] e = refl
-all_calls l y s [] (c ∷ cs) e = absurd (let z : ◌≡◌ {A = ℕ} 0 1 = cc in omega arith)
-all_calls l y s (x ∷ xs) [] e = absurd (let z : ◌≡◌ {A = ℕ} 0 1 = cc in omega arith)
+all_calls l y s [] (c ∷ cs) e = cc
+all_calls l y s (x ∷ xs) [] e = cc
 all_calls l y s (x ∷ xs) (c ∷ cs) e =
     let h : call_line x ≡ Ok c = cc in
     let t : map call_line xs ≡ map Ok cs = cc in

@@ -1,10 +1,10 @@
 -- Lines that are answered by a session in lent words. Assumes nothing: these are definitions.
 use Rattle.std.specs.Prelude.{ℕ, List, take, Result}
 use Rattle.score.specs.Calls.{Call, Answer}
-use Rattle.memory.specs.Store.{words_asked, bytes_asked, stored, limits_of, layout_of, score_of}
+use Rattle.memory.specs.Store.{stored, limits_of, layout_of, score_of}
 use Rattle.score.specs.declared.Opening.{Opening}
 use Rattle.session.specs.declared.Sizes.{Sizes}
-use Rattle.session.specs.Session.{words_taken}
+use Rattle.session.specs.Session.{words_taken, sizes_for}
 use Rattle.script.specs.Script.{line_answer, after_line, line_answers}
 
 -- the words that a score takes
@@ -24,4 +24,4 @@ line_answers_in w ls = line_answers (limits_of (score_words w)) (layout_of (scor
 
 -- how many words and bytes an opening asks for
 abbrev pub asked_by : Opening → Sizes
-asked_by o = record { words = words_asked o.voices o.events; bytes = bytes_asked o.events }
+asked_by o = sizes_for o.voices o.events

@@ -14,8 +14,8 @@ ghost use Rattle.script.specs.Desk.{score_words, line_answer_in, words_after, li
 use crate::lines::Lines;
 use crate::{SERVED_EVENTS, SERVED_VOICES};
 use answers::spell_answer;
-use score::{Call, Refusal};
-use session::{Opening, Sizes, call, open};
+use score::{Call, Opening, Refusal};
+use session::{Sizes, call, open};
 use std::alloc::Global;
 use text::read_call;
 use wire::write_call;

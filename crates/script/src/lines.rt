@@ -4,7 +4,7 @@ ghost use Rattle.std.specs.Iterator.{YieldsFirstRef, item_count};
 ghost use Rattle.script.specs.Lines.{line_end, all_lines, says, lines, lines_in};
 ghost use Rattle.script.specs.Script.{with_rest, setting_in, opening_in};
 
-use session::Opening;
+use score::Opening;
 use text::{Unfit, read_setting};
 
 /// Where the first line of a text ends, if a line end stands there.

@@ -1,7 +1,7 @@
 -- Lines of an opening that cannot be read are answered by one refusal.
 use Rattle.std.proofs.Common.{ℕ, List, ◌++◌, Result, string_bytes, ap, ◌∙◌}
 use Rattle.score.specs.Calls.{refused}
-use Rattle.session.specs.declared.Opening.{Opening}
+use Rattle.score.specs.declared.Opening.{Opening}
 use Rattle.script.specs.Script.{answers_by, answer_lines, opening_in}
 use Rattle.script.proofs.Answered.{one_line}
 use Rattle.script.proofs.desk.answer_all.Goals as goal
