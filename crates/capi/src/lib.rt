@@ -167,7 +167,8 @@ fn number_of_next(refusal: Option<Refusal>) -> i64
 
 /// Puts records into the words that a score takes, of those that are lent.
 fn enter(words: &mut [u32], taken: usize, records: &[u32], refusal: &mut i64) -> i64
-    requires { (ReadyWords words.old) × (taken ≡ words_taken words.old) }
+    requires ready { ReadyWords words.old }
+    requires part { taken ≡ words_taken words.old }
     ensures { RecordsPut words.old records.now words.new refusal.new result }
 {
     let entered = put_records(&mut words[0..taken], records);

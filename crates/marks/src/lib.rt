@@ -24,7 +24,9 @@ fn bits_below(at: usize, word: usize) -> u32
 
 /// Marks the events of a range, where none is marked yet. Only the words from the first event's up to the end's are touched.
 pub fn mark(marks: &mut [u32], from: usize, to: usize)
-    requires { (marks.old ≡ replicate (length marks.old) 0) × ((from ≤ to) × InReach marks.old to) }
+    requires empty { marks.old ≡ replicate (length marks.old) 0 }
+    requires range { from ≤ to }
+    requires reach { InReach marks.old to }
     ensures { marks.new ≡ marked from to (length marks.old) }
 {
     let first = from / BITS;
@@ -43,7 +45,8 @@ pub fn is_marked(marks: &[u32], at: usize) -> bool
 
 /// Takes the mark of an event away, which has one.
 pub fn unmark(marks: &mut [u32], at: usize)
-    requires { InReach marks.old at × (has marks.old at ≡ true) }
+    requires reach { InReach marks.old at }
+    requires marked { has marks.old at ≡ true }
     ensures { marks.new ≡ unmarked marks.old at }
 {
     marks[at / BITS] ^= 1 << (at % BITS);

@@ -5,7 +5,8 @@ use Rattle.std.proofs.lemmas.Bool.{and_parts, ne_eqb}
 use Rattle.score.specs.Music.{Event, note, silence, lasts, fine, all_fine, places}
 use Rattle.score.specs.Calls.{Score}
 use Rattle.score.proofs.Picks.{pick_false}
-use Rattle.laws.specs.Rows.{event_of, voice_of, stands, alters}
+use Rattle.laws.specs.Rows.{event_of, voice_of}
+use Rattle.rows.specs.Rows.{stands, alters}
 use Rattle.memory.specs.Store.{flat, counts, ticks, padded, laid, stored, dealt, parted}
 use Rattle.memory.specs.Owed.{ScoreBack}
 use Rattle.memory.proofs.Scores.{fine_place, fine_flat, length_flat}

@@ -5,7 +5,7 @@ use Rattle.std.proofs.lemmas.List.{append_assoc, length-append, length-map, leng
 use Rattle.std.proofs.lemmas.List.Edits.{length-insert, length-remove}
 use Rattle.score.specs.Music.{Event, lasts, total}
 use Rattle.score.specs.Calls.{put, cut, change, Limits, Layout, Score, voice, all_events, changed}
-use Rattle.laws.specs.Rows.{stands, alters}
+use Rattle.rows.specs.Rows.{stands, alters}
 use Rattle.memory.specs.Store.{flat, counts, ticks, padded, stored, Kept}
 use Rattle.memory.specs.Moves.{shifted, closed, rows_in, rows_out, rows_set}
 use Rattle.memory.proofs.Scores.{length_flat, voice_le}

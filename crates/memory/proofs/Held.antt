@@ -6,7 +6,8 @@ use Rattle.std.proofs.lemmas.List.Sums.{sum-map, sum_by-cons, sum_by-take-le}
 use Rattle.score.specs.Music.{Event, silence, lasts, total, fine, all_fine, places, alterations, length_end}
 use Rattle.score.specs.Calls.{Limits, Layout, Score, voice, all_events}
 use Rattle.score.specs.Promise.{GoodLimits, GoodLayout}
-use Rattle.laws.specs.Rows.{event_of, voice_of, stands, alters}
+use Rattle.laws.specs.Rows.{event_of, voice_of}
+use Rattle.rows.specs.Rows.{stands, alters}
 use Rattle.memory.specs.Store.{flat, counts, ticks, padded, laid, stored, voices_in, limit_in, places_from, alterations_from, lengths_from, score_of, KeptIn, Kept}
 use Rattle.memory.specs.Words.{Holds, events_at, Spans}
 use Rattle.memory.proofs.Scores.{fine_fields, fine_at, fine_flat, fines_voice, length_flat, voice_le, flat_split}

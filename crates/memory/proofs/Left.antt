@@ -2,7 +2,7 @@
 use Rattle.std.proofs.Common.{◌≡◌, ℕ, ◌+◌, ◌-◌, ◌<◌, ◌≤◌, true, List, length, get_or, take, set, sym, refl, ap, ◌∙◌, arith}
 use Rattle.score.specs.Music.{Event, fine, lasts, total}
 use Rattle.score.specs.Calls.{put, cut, change, voice, all_events, ticks_end}
-use Rattle.laws.specs.Rows.{stands, alters}
+use Rattle.rows.specs.Rows.{stands, alters}
 use Rattle.memory.specs.Store.{voices_in, limit_in, places_from, limits_of, layout_of, score_of}
 use Rattle.memory.specs.Words.{Holds, next_words}
 use Rattle.memory.specs.Moves.{rows_in, rows_out, rows_set, with_event, without_event, with_other}

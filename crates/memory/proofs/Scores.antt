@@ -4,7 +4,7 @@ use Rattle.std.proofs.lemmas.List.{append_assoc, length-append, take-append-drop
 use Rattle.std.proofs.lemmas.Bool.{and_parts, and_from, and_left, and_right, ltb-true, lt-ltb, le-ltb}
 use Rattle.score.specs.Music.{Event, note, silence, lasts, total, fine, all_fine, places, alterations, length_end, fine_length}
 use Rattle.score.specs.Calls.{Score, voice, all_events, none_too_long, ticks_end}
-use Rattle.laws.specs.Rows.{stands, alters}
+use Rattle.rows.specs.Rows.{stands, alters}
 use Rattle.memory.specs.Store.{flat, all_fines}
 
 -- ---- events that can be written

@@ -6,7 +6,7 @@ use Rattle.score.specs.Music.{Event, lasts, total, fine, all_fine}
 use Rattle.score.specs.Calls.{Limits, Layout, Score, all_events, none_too_long, ticks_end}
 use Rattle.score.specs.Promise.{field_end, all_below}
 use Rattle.wire.proofs.Rows.{all_below-++}
-use Rattle.laws.specs.Rows.{stands, alters}
+use Rattle.rows.specs.Rows.{stands, alters}
 use Rattle.memory.specs.Store.{words_asked, flat, counts, ticks, padded, laid, stored, Kept}
 use Rattle.memory.specs.Owed.{WordsFit, WordsCounted}
 use Rattle.memory.proofs.Scores.{fine_fields, fine_flat, length_flat}

@@ -1,9 +1,10 @@
 -- How a score lies in words, as a function of its limits, its layout and itself, and the way back. Assumes nothing: these are definitions.
 use Rattle.std.specs.Prelude.{◌≡◌, ℕ, ◌+◌, ◌-◌, ◌*◌, ◌≤◌, Bool, true, ◌&&◌, List, [], ◌∷◌, ◌++◌, map, length, take, drop, replicate, slice_index}
-use Rattle.score.specs.Music.{places, Event, note, silence, lasts, total, all_fine}
+use Rattle.score.specs.Music.{Event, lasts, total, all_fine}
 use Rattle.score.specs.Calls.{Limits, Layout, Score, all_events, none_too_long}
 use Rattle.score.specs.Promise.{whole}
-use Rattle.laws.specs.Rows.{voice_of, stands, alters}
+use Rattle.laws.specs.Rows.{voice_of}
+use Rattle.rows.specs.Rows.{stands, alters}
 
 -- how many words the header has, which the counts of the voices follow
 abbrev pub counts_from : ℕ

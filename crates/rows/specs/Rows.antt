@@ -1,13 +1,22 @@
 -- What three words, and three rows of words, mean. Assumes nothing: these are definitions.
 use Rattle.std.specs.Prelude.{◌≡◌, ℕ, Bool, true, false, ◌&&◌, ◌||◌, List, [], ◌∷◌, Result, MatchResult, ◌==◌, nat_lt}
 use Rattle.score.specs.declared.Event.{Event as EventType}
-use Rattle.score.specs.Music.{Event, lasts, places, length_end}
+use Rattle.score.specs.Music.{Event, note, silence, lasts, places, length_end}
 use Rattle.score.specs.Meaning.{event_meant}
-use Rattle.laws.specs.Rows.{event_of, voice_of, stands, alters}
+use Rattle.laws.specs.Rows.{event_of, voice_of}
 use Rattle.rows.specs.declared.Row.{Row}
 use Rattle.rows.specs.declared.Rows.{Rows}
 
--- an event as words, and back
+-- an event as three words: its place, where a silence has one that no note has, its alteration and its length
+abbrev pub stands : Event → ℕ
+stands (note p a d) = p
+stands (silence d) = places
+
+abbrev pub alters : Event → ℕ
+alters (note p a d) = a
+alters (silence d) = 0
+
+-- the same as a row, and back
 abbrev pub row_of : Event → Row
 row_of e = record { place = stands e; alteration = alters e; length = lasts e }
 

@@ -8,6 +8,6 @@ use Rattle.capi.proofs.enter.Goals as goal
 pub returns : goal.returns
 returns c =
     let e = c.put_records-entered.ensures in
-    put_in c.args.words.now c.requires.0 c.args.taken c.requires.1 c.args.records.now c.put_records-entered.new.words c.put_records-entered.result.count _
+    put_in c.args.words.now c.requires.ready c.args.taken c.requires.part c.args.records.now c.put_records-entered.new.words c.put_records-entered.result.count _
     (record { count = e.count; next = e.next; left = e.left; puts = e.puts; holds = e.holds }) c.put_records-entered.auto.words _ _
     (to_z-of_z_to w64 _ _ (sfits_of c.number_of_next.type_inv) c.number_of_next.ensures) (to_z_pos w64 (omega (arith, e.few)))

@@ -13,6 +13,6 @@ overflow_sub-bits c =
 pub returns : goal.returns
 returns c =
     let part : length c.loop-i.bits-items ≡ c.args.to / 32 + 1 - c.args.from / 32 =
-    omega (arith, c.requires.1.1, length-take {A = ℕ} (c.args.to / 32 + 1 - c.args.from / 32) (drop (c.args.from / 32) c.args.marks.now), length-drop {A = ℕ} (c.args.from / 32) c.args.marks.now) in
+    omega (arith, c.requires.reach, length-take {A = ℕ} (c.args.to / 32 + 1 - c.args.from / 32) (drop (c.args.from / 32) c.args.marks.now), length-drop {A = ℕ} (c.args.from / 32) c.args.marks.now) in
     marked_part c.args.from c.args.to (length c.args.marks.now) (c.args.to / 32 + 1 - c.args.from / 32) c.args.marks.now c.loop-i.bits-items
-    c.requires.0 c.requires.1.0 c.requires.1.1 refl part (λ q b. c.loop-i.invariant q (omega arith))
+    c.requires.empty c.requires.range c.requires.reach refl part (λ q b. c.loop-i.invariant q (omega arith))

@@ -11,5 +11,5 @@ pub returns : goal.returns
 returns c =
     let mask : (1 * 2 ^ (c.args.at % 32)) % 2 ^ 32 ≡ 2 ^ (c.args.at % 32) = one_shl (c.args.at % 32) 32 (omega arith) in
     let word : ℕ = get_or c.args.marks.now (c.args.at / 32) 0 in
-    let is_set : bit word (c.args.at % 32) ≡ 1 = eqb-true _ _ c.requires.1 in
+    let is_set : bit word (c.args.at % 32) ≡ 1 = eqb-true _ _ c.requires.marked in
     ap (set c.args.marks.now (c.args.at / 32)) (ap (bit_xor word) mask ∙ cleared word (c.args.at % 32) is_set)
