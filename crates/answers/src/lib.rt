@@ -7,7 +7,7 @@ ghost use Rattle.score.specs.Spelling.{spelled_answer, spelled_bytes};
 ghost use Rattle.wire.specs.Reading.{row_of, answer_of};
 
 use score::{Answer, Sound, Symbol};
-use spelling::{spell_sounds, spell_symbols};
+use spelling::{spell_refusal, spell_sounds, spell_symbols};
 use std::alloc::{AllocError, Global};
 use std::fmt;
 use wire::{Item, read_answer};
@@ -41,6 +41,7 @@ pub fn items_in<T: Item>(
 {
     let mut row = Vec::new(heap);
     let mut rest = bytes;
+    // each is read from what is left: of a row that is cut short there is none, and `chunks_exact` would need a count behind it
     for _i in 0..count {
         let Some(item) = T::read(rest) else {
             return Ok(None);
@@ -61,7 +62,8 @@ pub fn spell_answer(heap: Global, bytes: &[u8], out: &mut String) -> anyhow::Res
     };
     match said {
         Answer::Done => write!(out, "done")?,
-        Answer::Refused { number, place } => write!(out, "refused {number} at {place}")?,
+        // not a `Refusal`: bytes may have any number
+        Answer::Refused { number, place } => spell_refusal(number, place as usize, out)?,
         Answer::Symbols { count } => spell_items_in::<Symbol>(heap, &bytes[5..], count, out)?,
         Answer::Sounds { count } => spell_items_in::<Sound>(heap, &bytes[5..], count, out)?,
         Answer::Number { number } => write!(out, "{number}")?,
@@ -97,6 +99,14 @@ mod tests {
         assert!(rt; symbols.is_some_and(|found| found.as_slice() == row.as_slice()));
         let sounds = items_in::<Sound>(rt.alloc(), &[1, 60, 0, 1, 0, 0, 96, 0, 1, 62, 0], 2)?;
         assert!(rt; sounds.is_none());
+        let sounds = items_in::<Sound>(rt.alloc(), &[1, 60, 0, 1, 0, 0, 96, 0], 1)?;
+        let row = [Sound {
+            voice: 1,
+            start: 256,
+            length: 96,
+            tone: 60,
+        }];
+        assert!(rt; sounds.is_some_and(|found| found.as_slice() == row.as_slice()));
         Ok(())
     }
 }

@@ -3,6 +3,7 @@
 
 ghost use Rattle.std.specs.Prelude.{◌≡◌, ◌<◌, true, false, length, Some, None, MatchResult, nat_le};
 ghost use Rattle.score.specs.Music.{pick};
+ghost use Rattle.score.specs.declared.Refusal.TheVariants.{BadOpening};
 ghost use Rattle.score.specs.Meaning.{refusal_number, refusal_place};
 ghost use Rattle.wire.specs.Reading.{said_of};
 ghost use Rattle.session.specs.Session.{opens, sizes_of, open_answer, words_taken, Ready, Opened, Unchanged};
@@ -16,6 +17,7 @@ use session::{Opening, Sizes, call, open};
 use wire::read_answer;
 
 /// A refusal's number and place as one number below 0.
+// Two numbers, and no `Refusal`: an answer in bytes tells a refusal by just these, and C is told one number.
 fn below_zero(number: u8, place: u32) -> i64
     ensures { result ≡ turned_away number place }
 {
@@ -24,6 +26,7 @@ fn below_zero(number: u8, place: u32) -> i64
 }
 
 /// The number of a refusal.
+// No `From`: neither type is this crate's.
 fn refuse(refusal: Refusal) -> i64
     ensures { result ≡ turned_away (refusal_number refusal) (refusal_place refusal) }
 {
@@ -42,12 +45,14 @@ fn opening_of(key: u32, bar: u32, voices: u32, events: u32) -> Opening
     }
 }
 
-/// What an opening asks for, or the number of its refusal.
-fn asked(opening: Opening) -> Result<Sizes, i64>
-    ensures { MatchResult result (λ s. Some s ≡ sizes_of opening) (λ n. (opens opening ≡ false) × (n ≡ turned_away 3 1)) }
+/// What an opening asks for, or its refusal.
+fn asked(opening: Opening) -> Result<Sizes, Refusal>
+    ensures { MatchResult result (λ s. Some s ≡ sizes_of opening) (λ f. (opens opening ≡ false) × (f ≡ BadOpening)) }
 {
-    Sizes::of(opening).ok_or(refuse(Refusal::BadOpening))
+    Sizes::of(opening).ok_or(Refusal::BadOpening)
 }
+
+// Two exported names over `asked`: each returns one field of what is asked (C interface).
 
 /// How many words an opening asks for, or a refusal.
 #[unsafe(no_mangle)]
@@ -56,7 +61,7 @@ pub extern "C" fn engraver_words(key: u32, bar: u32, voices: u32, events: u32) -
 {
     match asked(opening_of(key, bar, voices, events)) {
         Ok(sizes) => sizes.words as i64,
-        Err(refused) => refused,
+        Err(refusal) => refuse(refusal),
     }
 }
 
@@ -67,7 +72,7 @@ pub extern "C" fn engraver_bytes(key: u32, bar: u32, voices: u32, events: u32) -
 {
     match asked(opening_of(key, bar, voices, events)) {
         Ok(sizes) => sizes.bytes as i64,
-        Err(refused) => refused,
+        Err(refusal) => refuse(refusal),
     }
 }
 
@@ -115,10 +120,7 @@ fn taken(words: &[u32]) -> Option<Sizes>
 fn fits(words: &[u32], bytes: &[u8]) -> bool
     ensures { result ≡ header_fits words.now bytes.now }
 {
-    match taken(words) {
-        Some(sizes) => sizes.bytes <= bytes.len(),
-        None => false,
-    }
+    taken(words).is_some_and(|sizes| sizes.bytes <= bytes.len())
 }
 
 /// The number of an answer that stands so long at the front of bytes.
@@ -159,10 +161,7 @@ pub extern "C" fn engraver_call(words: &mut [u32], bytes: &mut [u8], input: &[u8
 fn number_of_next(refusal: Option<Refusal>) -> i64
     ensures { result ≡ signed 0 (said_next refusal) }
 {
-    match refusal {
-        Some(refusal) => refuse(refusal),
-        None => 0,
-    }
+    refusal.map_or(0, |refusal| refuse(refusal))
 }
 
 /// Puts records into the words that a score takes, of those that are lent.

@@ -5,7 +5,7 @@ use rows::Rows;
 use score::Layout;
 
 /// A voice in rows of words, and how it is laid out: the rows are as long as each other, their events can be written, and so can bars.
-#[derive(Clone, Copy)]
+#[derive(Clone, Copy, PartialEq, Eq, Debug)]
 pub struct Voice<'a> {
     pub rows: Rows<'a>,
     pub layout: Layout,

@@ -31,7 +31,7 @@ mod tests {
 
     const E5: u8 = 37;
 
-    const SILENT: u8 = 70;
+    const SILENT: u8 = score::SILENT as u8;
 
     // alterations
     const FLAT: u32 = 1;

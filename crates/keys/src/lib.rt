@@ -6,10 +6,7 @@ ghost use Rattle.score.specs.Music.{places, alterations, tone as tone_of};
 ghost use Rattle.score.specs.Print.{key};
 ghost use Rattle.keys.specs.Held.{key_row, sign_number, sign_needed, then_holding};
 
-use score::{PLACES, SILENT};
-
-/// The steps of an octave, of which each key alters a few in all octaves.
-const STEPS: u32 = 7;
+use score::{PLACES, SILENT, STEPS};
 
 /// The key without signs: those above it have sharps, those below it flats.
 const PLAIN: u32 = 7;
@@ -25,16 +22,18 @@ pub fn tone(place: u32, alteration: u32) -> u64
     ensures is { result ≡ tone_of place alteration }
     ensures small { place < places → alteration < alterations → result < 128 }
 {
-    OCTAVE * (place / STEPS) as u64 + HALF_TONES[(place % STEPS) as usize] + alteration as u64
+    OCTAVE * (place / STEPS as u32) as u64
+        + HALF_TONES[(place % STEPS as u32) as usize]
+        + alteration as u64
 }
 
-/// How a key alters a place: 1 by a flat, 2 not, 3 by a sharp.
+/// How a key alters a place: 1 by a flat, 2 not, 3 by a sharp (alterations are numbers, see `Event`), for which it alters a few steps in all octaves.
 #[tactic(auto, using(crate::proofs::Order::key_is))]
 pub fn altered_by_key(signature: u32, place: u32) -> u32
     ensures { result ≡ key signature place }
 {
     // sharps come in the order f c g d a e b, which is four steps up each time, and flats in the other order
-    let nth = (2 * (place % STEPS) + 1) % STEPS;
+    let nth = (2 * (place % STEPS as u32) + 1) % STEPS as u32;
     if signature >= PLAIN {
         if nth + PLAIN < signature { 3 } else { 2 }
     } else if nth >= signature {

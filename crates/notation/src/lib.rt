@@ -57,7 +57,7 @@ fn read_step(text: &[u8]) -> Result<(u8, &[u8]), &[u8]>
     )
 }
 
-/// Reads a tie, or none.
+/// Reads a tie, or none. It never fails, but all readers have one shape.
 fn read_tie(text: &[u8]) -> Result<(bool, &[u8]), &[u8]>
     ensures { outcome result ≡ tie text.now }
 {

@@ -65,7 +65,7 @@ impl Proof {
     }
 }
 
-/// The events of a voice, in three rows.
+/// The events of a voice, in three rows, as `Rows` lends them (a rule of the project).
 #[derive(Drop)]
 struct Voice {
     places: Vec<u32>,
@@ -155,6 +155,7 @@ impl Voice {
 }
 
 /// Room for what is printed of so many ticks, in bytes. A bar that no voice has counts as one that there is.
+// As much as `read_back` asks for, but of a bar and ticks that nobody has looked at yet: nothing may overflow.
 fn room(ticks: u64, bar: u32) -> usize {
     let bar = bar.clamp(1, LONGEST_BAR) as u64;
     let bars = (ticks / bar).saturating_add(1);

@@ -47,7 +47,7 @@ fn bars_needed(rows: Rows, layout: Layout, page: usize, notes: usize) -> Result<
     Ok(bars)
 }
 
-/// How much was printed and read: so many bytes of symbols, and so many notes.
+/// How much was printed and read: so many bytes of symbols, and so many notes, of the lent page and the lent notes.
 #[derive(Clone, Copy, PartialEq, Eq, Debug)]
 pub struct ReadBack {
     pub bytes: usize,

@@ -25,6 +25,7 @@ pub mod player;
 use player::{Held, Player};
 
 /// A note as it is heard: when it begins and how long it is, in ticks, and its tone in half tones.
+// Not score's `Sound`: a reader knows no voice, and what it reads may be longer than a score.
 #[derive(Clone, Copy, PartialEq, Eq, Debug)]
 pub struct Heard {
     pub start: u64,
@@ -70,6 +71,7 @@ impl Held {
     fn goes_on(self, at: u8, sign: u8) -> bool
         ensures { result ≡ goes_on (held_meant (Some self)) at sign }
     {
+        // on paper a sign is a number, and none is 0 (see `Symbol`)
         self.place == at && sign == 0
     }
 
@@ -131,6 +133,7 @@ fn after_head(time: u64, first: Option<Heard>, note: Held, tied: bool) -> Played
 }
 
 /// A head is played: what is held goes on, or is let go and a note begins.
+// The numbers of a head stand in the case of `Symbol` (a rule of the project), so they are handed on one by one.
 #[tactic(auto, unfolding(score::specs::Print::goes_on))]
 fn play_head(
     player: Player,
@@ -260,7 +263,7 @@ fn play_row(bytes: &[u8], signature: u32, holds: &mut Holds, heard: &mut [Heard]
         time: 0,
         held: None,
     };
-    // notes are written into lent words, of which the first `notes` are taken: there is no heap here
+    // notes are written into lent memory, of which the first `notes` are taken: there is no heap here
     let mut notes = 0;
     'symbols: for symbol in Symbols(bytes) {
         let played = play(player, symbol, signature, holds);

@@ -1,13 +1,13 @@
 -- What a put last does to words that hold a score, by what it is answered. Assumes nothing.
-use Rattle.std.proofs.Common.{◌≡◌, ℕ, suc, ◌<◌, ◌≤◌, Bool, true, false, eqb, ltb, leb, List, [], ◌∷◌, ◌++◌, length, take, drop, set, sym, refl, ap, ◌∙◌, arith}
+use Rattle.std.proofs.Common.{◌≡◌, ℕ, suc, ◌<◌, Bool, true, false, eqb, ltb, leb, List, [], ◌∷◌, ◌++◌, length, take, drop, set, sym, refl, ap, ◌∙◌, arith}
 use Rattle.std.specs.List.{insert}
-use Rattle.std.proofs.lemmas.List.{append-nil, get_or_past, get_or-set_same, get_or-set_other, take_all, drop_all}
+use Rattle.std.proofs.lemmas.List.{append-nil, get_or-set_same, get_or-set_other, take_all, drop_all}
 use Rattle.std.proofs.lemmas.Bool.{eqb-true, eqb-false, eq-eqb, ltb-true}
 use Rattle.score.specs.Music.{pick, Event}
 use Rattle.score.specs.Calls.{Call, put, Answer, done, refused, symbols, sounds, number, Limits, Layout, Score, voice, all_events, turned_by, turned, changed, after, told, place, answer}
 use Rattle.score.proofs.Picks.{pick_true, pick_false}
 use Rattle.laws.proofs.Turning.{not_turned, after_turned}
-use Rattle.memory.specs.Store.{stored, voices_in, limits_of, layout_of, score_of}
+use Rattle.memory.specs.Store.{stored, limits_of, layout_of, score_of}
 use Rattle.memory.specs.Words.{Holds, answer_by, answer_at, words_by, next_words}
 use Rattle.memory.proofs.Back.{score_back}
 use Rattle.memory.proofs.Changes.{events_put}
@@ -15,10 +15,6 @@ use Rattle.memory.proofs.Run.{kept_after}
 use Rattle.records.specs.Records.{put_last, events_for}
 use Rattle.rows.specs.Rows.{event_in}
 use Rattle.records.specs.declared.Record.{Record}
-
--- a voice that is not there has no events
-pub no_events : (w : List ℕ) → Holds w → (v : ℕ) → voices_in w ≤ v → 0 ≡ length (voice (score_of w) v)
-no_events w h v le = sym (ap length (get_or_past (score_of w) v [] (omega (arith, h.kept.so_many))))
 
 -- ---- the words that a call leaves
 

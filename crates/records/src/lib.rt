@@ -58,10 +58,7 @@ pub struct Entered {
 fn count_of(score: Stored<'_>, voice: u32) -> u32
     ensures { result ≡ length (voice_of_score (score_of score.entry.words.now) voice) }
 {
-    match score.find_voice(voice) {
-        Some(span) => span.count as u32,
-        None => 0,
-    }
+    score.find_voice(voice).map_or(0, |span| span.count as u32)
 }
 
 impl Record {

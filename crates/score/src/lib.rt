@@ -4,6 +4,7 @@
 
 ghost use Rattle.std.specs.Prelude.{◌≡◌, ◌*◌};
 ghost use Rattle.score.specs.Examples.{WorkedExamples};
+ghost use Rattle.score.specs.declared.Answer.TheVariants.{Refused};
 ghost use Rattle.score.specs.Meaning.{refusal_number, refusal_place, good_layout};
 
 mod limits;
@@ -11,10 +12,11 @@ mod spelled;
 
 pub use limits::{
     ALTERATIONS, LAST_KEY, LENGTH_END, LONGEST_BAR, MOST_BARS, MOST_EVENTS, MOST_VOICES, PLACES,
-    SHORTEST, SILENT, TICKS_END, WIDEST_SPAN,
+    SHORTEST, SILENT, STEPS, TICKS_END, WIDEST_SPAN,
 };
 
 /// One of the events that a voice is a row of.
+// Places, alterations and signs are numbers in the cases of events and symbols (a rule of the project): they go to words and bytes as they stand, also out of range.
 #[derive(Clone, Copy, PartialEq, Eq, Debug)]
 pub enum Event {
     /// A place is 7 times the octave and a step from c, 0, to b, 6; an alteration is 0 to 4, from double flat over none, 2, to double sharp.
@@ -54,6 +56,7 @@ pub struct Sound {
 }
 
 /// What is done with a score, and what is asked of it.
+// A voice, an index and an event are no struct of their own: each writer and reader would take it apart again (no plainer).
 #[derive(Clone, Copy, PartialEq, Eq, Debug)]
 pub enum Call {
     /// An event comes into a voice before its event of that index, or last.
@@ -168,6 +171,18 @@ impl Layout {
         ensures { result ≡ good_layout self }
     {
         self.key <= LAST_KEY && self.bar > 0 && self.bar <= LONGEST_BAR && self.bar % SHORTEST == 0
+    }
+}
+
+/// A refusal is answered by its number and place.
+impl From<Refusal> for Answer {
+    ghost from_gives = { λ r a. a ≡ Refused (refusal_number r) (refusal_place r) };
+
+    fn from(refusal: Refusal) -> Answer {
+        Answer::Refused {
+            number: refusal.number(),
+            place: refusal.place(),
+        }
     }
 }
 

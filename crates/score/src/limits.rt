@@ -1,5 +1,8 @@
 //! The limits of the notation and of a score, said once for the code of all crates. Each is held to the definitions by the contracts that use it.
 
+/// How many steps an octave has. A place is so many times the octave, and a step.
+pub const STEPS: u8 = 7;
+
 /// How many places there are. A slice that says what holds at each of them has so many words.
 pub const PLACES: usize = 70;
 

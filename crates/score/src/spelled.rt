@@ -3,8 +3,10 @@ ghost use Rattle.std.specs.Prelude.{◌≡◌, Some};
 ghost use Rattle.score.specs.Meaning.{event_meant, symbol_meant, sound_meant, refusal_meant};
 ghost use Rattle.score.specs.Spelling.{letter, mark, alteration_name, spelled_event, spelled_symbol, spelled_sound, spelled_answer};
 
-use crate::{Event, Refusal, Sound, Symbol};
+use crate::{Event, Refusal, STEPS, Sound, Symbol};
 use std::fmt;
+
+// The three functions below match numbers, since those are what events and symbols have; a number past the last is spelled as the last.
 
 /// The letter of a step, from c on.
 fn letter_of(step: u8) -> &'static str
@@ -59,9 +61,9 @@ impl fmt::Display for Event {
                 alteration,
                 length,
             } => {
-                let letter = letter_of(place % 7);
+                let letter = letter_of(place % STEPS);
                 let name = name_of(alteration);
-                let octave = place / 7;
+                let octave = place / STEPS;
                 write!(f, "{letter}{name}{octave} {length}")
             }
             Event::Silence { length } => write!(f, "silence {length}"),
@@ -83,8 +85,8 @@ impl fmt::Display for Symbol {
                 tied,
             } => {
                 let mark = mark_of(sign);
-                let letter = letter_of(place % 7);
-                let octave = place / 7;
+                let letter = letter_of(place % STEPS);
+                let octave = place / STEPS;
                 let tie = if tied { "~" } else { "" };
                 write!(f, "{mark}{letter}{octave}:{value}{tie}")
             }

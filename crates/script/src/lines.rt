@@ -37,7 +37,7 @@ fn says_something(line: &[u8]) -> bool
 }
 
 /// The lines of a text that say something and have not been given yet, front to back.
-#[derive(Clone, Copy)]
+#[derive(Clone, Copy, PartialEq, Eq, Debug)]
 pub struct Lines<'a> {
     text: &'a [u8],
 }

@@ -44,6 +44,8 @@ fn print(score: Stored<'_>, span: Span, bar: u32, count: u32, out: &mut [u8]) ->
 }
 
 /// Shows bars of a voice.
+// In `show` and `hear` each check hands on its value or returns the refusal, and the answer goes behind the first five bytes (rules of the project). Score and
+// bytes are no struct: it would hold a `&mut`, and each contract would say besides that it lends the same bytes still (no plainer).
 fn show(score: Stored<'_>, bytes: &mut [u8], voice: u32, bar: u32, count: u32) -> usize
     requires { bytes_taken score.words.now ≤ length bytes.old }
     ensures { Says score.entry.words.now bytes.old bytes.new (show_call voice bar count) result }

@@ -101,6 +101,7 @@ fn answer_in(words: &mut [u32], bytes: &mut [u8], call: Call) -> usize
 }
 
 /// Answers a call in bytes over the front of the lent bytes, and returns how long the answer is.
+// Words and bytes are lent one by one (C interface), so each call asks that a score lies there.
 pub fn call(words: &mut [u32], bytes: &mut [u8], input: &[u8]) -> usize
     requires { Ready words.old bytes.old }
     ensures { Answered words.old bytes.old input.now words.new bytes.new result }

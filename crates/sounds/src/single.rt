@@ -12,7 +12,7 @@ use score::Sound;
 use voices::Stored;
 
 /// The notes of one voice as they are heard, one after the other.
-#[derive(Clone, Copy)]
+#[derive(Clone, Copy, PartialEq, Eq, Debug)]
 pub struct Notes<'a> {
     voice: u8,
     /// The events that come yet, and when the first of them begins.

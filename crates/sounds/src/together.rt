@@ -135,6 +135,7 @@ impl Marked<'_> {
                 let (at, row) = self.voices.next_note(cursors[voice as usize]);
                 cursors[voice as usize] = at + 1;
                 sound_of(row, voice as u8, start).write(&mut out[8 * count..]);
+                // notes are written into lent bytes, of which the first 8 * count are taken: there is no heap here
                 count += 1;
             }
         }

@@ -14,6 +14,7 @@ use std::fmt;
 use words::{read_one_of, read_place, read_spaced, read_word};
 
 /// The number under which a line that cannot be read stands in the list of refusals.
+// Not `Refusal::Unreadable`: its place has four bytes, and a line may be longer.
 const UNREADABLE: u8 = 1;
 
 /// The first byte of a line that does not fit, or its length where it ends too early.
@@ -53,6 +54,7 @@ pub enum Verb {
 }
 
 /// Reads how an event begins: with a step, or as a silence.
+// Not notation's table of steps: silence is an eighth word, and which of all words fits furthest says where a line is refused.
 #[tactic(auto, unfolding(crate::specs::Lines::beginning))]
 fn read_beginning(line: &[u8]) -> Result<(Beginning, &[u8]), &[u8]>
     ensures { outcome result ≡ beginning line.now }
@@ -94,6 +96,7 @@ fn read_alteration(line: &[u8]) -> Result<(u8, &[u8]), &[u8]>
 {
     match read_word(line, b" ") {
         Ok((_, rest)) => read_alteration_word(rest),
+        // an alteration is a number (see `Event`), and none is 2
         Err(_) => Ok((2, line)),
     }
 }

@@ -13,11 +13,15 @@ use rows::Row;
 use score::{Event, Refusal};
 
 /// A score as it is stored in lent words, to be changed.
+// What changes it says `same` too, that it lends the same words still: before and after are no field's.
 #[derive(Drop)]
 pub struct StoredMut<'a> {
     words: &'a mut [u32],
     pub ghost holds: { Holds words.now },
 }
+
+// The next three go over plain words: between the first write and the last no score lies there. They take a voice, a place and ticks one by one, as the
+// definitions with_event, without_event and with_other do.
 
 /// An event comes in at a place of each region, into a voice that is then so many ticks long.
 fn insert_event(words: &mut [u32], voice: usize, used: usize, at: usize, ticks: u32, row: Row)

@@ -14,7 +14,7 @@ use rows::{Row, Rows};
 use score::{Event, Layout, Refusal, TICKS_END};
 
 /// A score as it is stored in lent words.
-#[derive(Clone, Copy)]
+#[derive(Clone, Copy, PartialEq, Eq, Debug)]
 pub struct Stored<'a> {
     words: &'a [u32],
     pub ghost holds: { Holds words.now },
@@ -56,8 +56,9 @@ impl<'a> Stored<'a> {
     }
 
     /// Where the regions of places, alterations and lengths begin.
-    pub(crate) fn begins(self) -> [usize; 3]
-        ensures { result ≡ begins_in self.entry.words.now }
+    pub fn begins(self) -> [usize; 3]
+        ensures begins { result ≡ begins_in self.entry.words.now }
+        ensures within { lengths_from self.entry.words.now + limit_in self.entry.words.now ≡ length self.entry.words.now }
     {
         let limit = self.words[LIMIT] as usize;
         let first = COUNTS + 2 * self.words[VOICES] as usize;

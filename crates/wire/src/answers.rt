@@ -34,13 +34,7 @@ pub fn write_refused(out: &mut [u8], refusal: Refusal) -> usize
     ensures wrote { out.new ≡ answer_bytes (refusal_meant refusal) ++ drop result out.old }
     ensures many { result ≡ 6 }
 {
-    write_answer(
-        out,
-        Answer::Refused {
-            number: refusal.number(),
-            place: refusal.place(),
-        },
-    )
+    write_answer(out, Answer::from(refusal))
 }
 
 /// What is said first in the answer that stands at the front of bytes: none if they are too few or its kind is unknown.

@@ -73,7 +73,8 @@ pub fn read_call(bytes: &[u8]) -> Result<Call, Refusal>
     let [number, fields @ ..] = bytes else {
         return Err(Refusal::Unreadable(0));
     };
-    // An enum of kinds of call would need this match, from a byte, and another to what is read by it. What a closure makes of an array is not proved.
+    // An enum of kinds of call would need this match, from a byte, and another to what is read by it. Arrays are taken apart by `let`: what a closure makes
+    // of an array's pattern has no value in the goal (tried).
     match *number {
         0 => fields_and_event(fields).map(|(voice, index, event)| Call::Put {
             voice,
@@ -161,6 +162,7 @@ impl Unread<'_> {
         self.place += 1;
         let [degree, alteration, low, high] = self.four()?;
         let length = u16::from_le_bytes([low, high]);
+        // an enum of the two kinds would be no plainer: both are read alike up to here
         Ok(if *kind == 0 {
             Event::Note {
                 place: degree,

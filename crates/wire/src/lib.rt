@@ -14,6 +14,7 @@ pub use calls::{read_call, write_call};
 pub use items::Item;
 
 /// Writes a row over the first bytes, and returns how many that is.
+// Bytes are lent, and how many were written is handed back by each writer: there is no heap here (a rule of the project).
 fn write_row(out: &mut [u8], row: &[u8]) -> usize
     requires { length row.now ≤ length out.old }
     ensures wrote { out.new ≡ row.now ++ drop result out.old }
@@ -24,12 +25,14 @@ fn write_row(out: &mut [u8], row: &[u8]) -> usize
 }
 
 /// Writes the number of a call, or the kind of an answer, and numbers in four bytes each.
+// The kind is a byte, said once for each kind in `write_call` and `write_answer`: it is what stands on the wire.
 fn write_fields(out: &mut [u8], kind: u8, fields: &[u32]) -> usize
     requires { 4 * length fields.now + 1 ≤ length out.old }
     ensures wrote { out.new ≡ (kind ∷ each four fields.now) ++ drop result out.old }
     ensures many { result ≡ 4 * length fields.now + 1 }
 {
     out[0] = kind;
+    // by its index: of a zip with `chunks_exact_mut` the loop's invariant knows the chunks that are left and not `out` (tried)
     for (i, field) in fields.iter().enumerate() {
         out[4 * i + 1..4 * i + 5].copy_from_slice(&field.to_le_bytes());
     }

@@ -4,6 +4,8 @@
 ghost use Rattle.std.specs.Prelude.{◌≡◌, ◌+◌, ◌<◌, ◌≤◌, true, false, ◌∷◌, map, Contains, IfOk, Some, None};
 ghost use Rattle.words.specs.Words.{number, strip, spaced_number, one_of, place_on, outcome, begins_with_digit};
 
+use score::STEPS;
+
 /// The digit that a line begins with, and what is behind it.
 #[tactic(auto, using(crate::proofs::Steps::none_empty, crate::proofs::Steps::none_below, crate::proofs::Steps::none_above))]
 fn digit(line: &[u8]) -> Option<(u8, &[u8])>
@@ -56,6 +58,7 @@ pub fn read_one_of<'a, T: Copy>(
 }
 
 /// Reads a number that is at most `most`.
+// Digit by digit: where a number ceases to fit is the place that is told, which `parse` does not say.
 #[tactic(auto, using(crate::proofs::Steps::number_begun, crate::proofs::Steps::digit_fits, crate::proofs::Steps::digit_too_much, crate::proofs::Steps::digits_over), unfolding(crate::specs::Words::number))]
 pub fn read_number(line: &[u8], most: u32) -> Result<(u32, &[u8]), &[u8]>
     ensures read { outcome result ≡ number most line.now }
@@ -90,6 +93,6 @@ pub fn read_spaced(line: &[u8], most: u32) -> Result<(u32, &[u8]), &[u8]>
 pub fn read_place(line: &[u8], step: u8) -> Result<(u8, &[u8]), &[u8]>
     ensures { outcome result ≡ place_on step line.now }
 {
-    let (octave, rest) = read_number(line, (u8::MAX - step) as u32 / 7)?;
-    Ok((7 * octave as u8 + step, rest))
+    let (octave, rest) = read_number(line, ((u8::MAX - step) / STEPS) as u32)?;
+    Ok((STEPS * octave as u8 + step, rest))
 }

@@ -12,7 +12,7 @@ pub returns : goal.returns
 unfolding rows_set with_other
 returns c =
     let same = c.into_iter-begin-iterator.ensures.into_iter_gives in
-    let begins = ap (λ z. iter_rest (zip_first z)) same ∙ (ap iter_rest c.zip-begin-items.ensures.first ∙ (c.iter.ensures.rest ∙ c.begins-begins.ensures)) in
+    let begins = ap (λ z. iter_rest (zip_first z)) same ∙ (ap iter_rest c.zip-begin-items.ensures.first ∙ (c.iter.ensures.rest ∙ c.begins-begins.ensures.begins)) in
     let words = ap (λ z. iter_rest (zip_second z)) same ∙ c.zip-begin-items.ensures.second.0 in
     let three : length c.loop-begin.yielded ≡ 3 = zip_end _ _ c.loop-begin.yielded _ _ c.next.new.self _ begins words c.loop-begin.yielded_by c.in-None.is c.next.ensures.steps in
     let done = c.loop-begin.invariant ∙ ap (done_to (λ w m x. set w (m + c.args.at) x) c.args.words.now (begins_in c.args.words.now) (words_of c.args.row)) three in
