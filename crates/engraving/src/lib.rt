@@ -76,6 +76,7 @@ impl Voice<'_> {
             if left == 0 {
                 continue 'events;
             }
+            // the row at an index: `Rows` gives its rows from the front
             let row = Row {
                 place: rows.places[i],
                 alteration: rows.alterations[i],
@@ -121,6 +122,7 @@ impl Voice<'_> {
         self.print_bars(from, count, &mut holds, out)
     }
 
+    // A function of its own, so that who shows a page need not know how long its bars are.
     /// As `engrave`, for bars that a score may be opened with and as many as may be shown, in bytes that are enough for any of them.
     pub fn engrave_page(self, from: u32, count: u32, out: &mut [u8]) -> usize
         requires bar { self.layout.bar ≤ 768 }
@@ -139,16 +141,16 @@ fn bytes_of_bars(page: &[u8], count: u32) -> usize
     ensures within { result ≤ length page.now }
 {
     let mut more = count;
-    for (passed, symbol) in page.chunks_exact(5).enumerate() {
+    for (passed, symbol) in page.chunks_exact(Symbol::SIZE).enumerate() {
         if more == 0 {
-            return 5 * passed;
+            return Symbol::SIZE * passed;
         }
         // by its first byte alone, as it is written: nothing else of a symbol is looked at here
         if symbol[0] == BAR_LINE {
             more -= 1;
         }
     }
-    page.len() - page.len() % 5
+    page.len() - page.len() % Symbol::SIZE
 }
 
 /// Of what is printed, the bars from number `from` on, up to `count` of them: a part that is handed on as it stands there.

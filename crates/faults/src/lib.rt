@@ -83,7 +83,7 @@ mod tests {
 
     // whether bytes are just these symbols
     fn are(page: &[u8], symbols: &[Symbol]) -> bool {
-        let bytes = page.chunks_exact(5);
+        let bytes = page.chunks_exact(Symbol::SIZE);
         bytes.remainder().is_empty()
             && bytes.len() == symbols.len()
             && bytes

@@ -8,7 +8,8 @@ ghost use Rattle.readback.specs.Heard.{answered, Back, Unchanged};
 use engraving::voice::Voice;
 use reading::{Heard, read};
 use rows::Rows;
-use score::{Layout, Refusal, SHORTEST, TICKS_END};
+use score::{Layout, Refusal, SHORTEST, Symbol, TICKS_END};
+use wire::Item;
 
 /// The ticks of a voice whose events can be written and that is not too long.
 fn ticks_of(rows: Rows) -> Result<u32, Refusal>
@@ -41,7 +42,7 @@ fn bars_needed(rows: Rows, layout: Layout, page: usize, notes: usize) -> Result<
     let ticks = ticks_of(rows)?;
     let bars = ticks / layout.bar + 1;
     let symbols = bars as usize * (layout.bar / SHORTEST + 1) as usize;
-    if page < 5 * symbols || notes < rows.lengths.len() {
+    if page < Symbol::SIZE * symbols || notes < rows.lengths.len() {
         return Err(Refusal::TooLittleMemory);
     }
     Ok(bars)

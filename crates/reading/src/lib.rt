@@ -223,7 +223,7 @@ impl<'a> Iterator for Symbols<'a> {
     #[tactic(auto, using(crate::proofs::Rows::by_first))]
     fn next(&mut self) -> Option<Symbol> {
         let symbol = next_symbol(self.0)?;
-        self.0 = &self.0[5..];
+        self.0 = &self.0[Symbol::SIZE..];
         Some(symbol)
     }
 }
@@ -284,7 +284,7 @@ pub fn read(bytes: &[u8], signature: u32, heard: &mut [Heard]) -> Result<usize, 
 {
     let mut holds = [0; PLACES];
     let notes = play_row(bytes, signature, &mut holds, heard);
-    let reached = 5 * Symbols(bytes).count();
+    let reached = Symbol::SIZE * Symbols(bytes).count();
     if reached < bytes.len() {
         Err(reached)
     } else {

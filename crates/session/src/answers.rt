@@ -9,10 +9,10 @@ ghost use Rattle.engraving.specs.Shown.{shown, page_bytes};
 ghost use Rattle.session.specs.Session.{bytes_taken, told_bytes, Says};
 
 use engraving::voice::Voice;
-use score::{Answer, Call, MOST_BARS, Refusal, WIDEST_SPAN};
+use score::{Answer, Call, MOST_BARS, Refusal, Sound, Symbol, WIDEST_SPAN};
 use sounds::heard_in;
 use voices::{Span, Stored, StoredMut};
-use wire::{write_answer, write_refused};
+use wire::{Item, write_answer, write_refused};
 
 /// Writes what is told to a call, or why it is turned away.
 fn write_told(bytes: &mut [u8], told: Result<Answer, Refusal>) -> usize
@@ -57,7 +57,7 @@ fn show(score: Stored<'_>, bytes: &mut [u8], voice: u32, bar: u32, count: u32) -
         return write_refused(bytes, Refusal::NoVoice(voice));
     };
     let long = print(score, span, bar, count, &mut bytes[5..]);
-    let count = (long / 5) as u32;
+    let count = (long / Symbol::SIZE) as u32;
     write_answer(bytes, Answer::Symbols { count }) + long
 }
 
@@ -71,7 +71,7 @@ fn hear(score: Stored<'_>, bytes: &mut [u8], from: u32, to: u32) -> usize
     };
     let notes = heard_in(score, from, to, &mut bytes[5..]);
     let count = notes as u32;
-    write_answer(bytes, Answer::Sounds { count }) + 8 * notes
+    write_answer(bytes, Answer::Sounds { count }) + Sound::SIZE * notes
 }
 
 /// Does a call on a stored score, and writes its answer.

@@ -13,9 +13,9 @@ mod answers;
 
 use answers::answer;
 pub use score::Opening;
-use score::{Call, Layout, MOST_EVENTS, MOST_VOICES, Refusal};
+use score::{Call, Layout, MOST_EVENTS, MOST_VOICES, Refusal, Sound};
 use voices::{COUNTS, LIMIT, StoredMut, VOICES, lay_out};
-use wire::{read_call, write_refused};
+use wire::{Item, read_call, write_refused};
 
 /// How many bytes a score asks for beside eight for each event, so that every answer fits.
 const LEAST_BYTES: usize = 262144;
@@ -53,7 +53,7 @@ impl Sizes {
         let events = events as usize;
         Sizes {
             words: COUNTS + (2 * voices + 3 * events),
-            bytes: 8 * events + LEAST_BYTES,
+            bytes: Sound::SIZE * events + LEAST_BYTES,
         }
     }
 

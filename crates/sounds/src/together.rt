@@ -7,7 +7,7 @@ ghost use Rattle.sounds.specs.Spans.{grain, silences, Laid, Ready};
 
 use super::{GRAIN, mark_voice, silences_first, sound_of};
 use rows::{Row, Rows};
-use score::{MOST_VOICES, WIDEST_SPAN};
+use score::{MOST_VOICES, Sound, WIDEST_SPAN};
 use voices::Stored;
 use wire::Item;
 
@@ -74,6 +74,7 @@ impl Voices<'_> {
         ensures row { result.1 ≡ row_at self.entry result.0 }
     {
         let at = from + silences_first(&self.rows.places[from..]);
+        // the row at an index: `Rows` gives its rows from the front
         let row = Row {
             place: self.rows.places[at],
             alteration: self.rows.alterations[at],
@@ -134,8 +135,8 @@ impl Marked<'_> {
                 voices ^= 1 << voice;
                 let (at, row) = self.voices.next_note(cursors[voice as usize]);
                 cursors[voice as usize] = at + 1;
-                sound_of(row, voice as u8, start).write(&mut out[8 * count..]);
-                // notes are written into lent bytes, of which the first 8 * count are taken: there is no heap here
+                sound_of(row, voice as u8, start).write(&mut out[Sound::SIZE * count..]);
+                // notes are written into lent bytes, of which those of `count` notes are taken: there is no heap here
                 count += 1;
             }
         }

@@ -99,6 +99,7 @@ impl<'a> Stored<'a> {
         ensures { result ≡ row_in self.entry.words.now at }
     {
         let [places, alterations, lengths] = self.begins();
+        // three words of one region each: a `Rows` of all regions would be cut out of the words first (no plainer)
         Row {
             place: self.words[places + at],
             alteration: self.words[alterations + at],
