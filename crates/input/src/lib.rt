@@ -1,6 +1,8 @@
 //! What the programs read: the file that their first argument names, or standard input.
 #![tactic(auto)]
 
+ghost use Rattle.std.specs.Prelude.{◌≡◌, Ok};
+
 use std::io::Read;
 use std::{env, fs, io};
 
@@ -17,7 +19,9 @@ fn told(
     program: &str,
     name: &str,
     read: io::Result<Vec<u8>>,
-) -> io::Result<Vec<u8>> {
+) -> io::Result<Vec<u8>>
+    ensures { (bytes : _) → read ≡ Ok bytes → result ≡ Ok bytes }
+{
     if let Err(reason) = &read {
         eprintln!(rt; "{program}: cannot read {name}: {reason}")?;
     }
