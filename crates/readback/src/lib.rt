@@ -48,7 +48,8 @@ fn bars_needed(rows: Rows, layout: Layout, page: usize, notes: usize) -> Result<
     Ok(bars)
 }
 
-/// How much was printed and read: so many bytes of symbols, and so many notes, of the lent page and the lent notes.
+/// How much was printed and read: so many bytes of symbols, and so many notes.
+// Page and notes are lent, and how much of each was written is handed back: there is no heap here (a rule of the project).
 #[derive(Clone, Copy, PartialEq, Eq, Debug)]
 pub struct ReadBack {
     pub bytes: usize,

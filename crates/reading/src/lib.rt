@@ -241,6 +241,7 @@ fn write_note(heard: &mut [Heard], note: Option<Heard>) -> usize
     1
 }
 
+/// Two notes that may have ended are written down, the held one first. Returns how many notes that is.
 fn write_both(heard: &mut [Heard], first: Option<Heard>, second: Option<Heard>) -> usize
     requires { length (listed first ++ listed second) ≤ length heard.old }
     ensures wrote { heard.new ≡ (listed first ++ listed second) ++ drop result heard.old }
