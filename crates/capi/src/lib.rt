@@ -110,10 +110,7 @@ fn taken(words: &[u32]) -> Option<Sizes>
     ensures { result ≡ taken_by words.now }
 {
     let sizes = Sizes::of(header(words)?)?;
-    if sizes.words > words.len() {
-        return None;
-    }
-    Some(sizes)
+    (sizes.words <= words.len()).then_some(sizes)
 }
 
 /// Whether memory has a header that a score may have, and room for such a score.

@@ -15,7 +15,7 @@ use Rattle.keys.proofs.Holding.{held_key, needed_is, holding_is}
 use Rattle.lengths.proofs.Drawing.{value_known, values_over}
 use Rattle.rows.specs.declared.Row.{Row}
 use Rattle.rows.specs.declared.Rows.{Rows}
-use Rattle.rows.specs.Rows.{event_in}
+use Rattle.rows.specs.Rows.{event_in, row_at}
 use Rattle.score.specs.declared.Layout.{Layout}
 use Rattle.engraving.specs.Shown.{asked_for}
 use Rattle.engraving.specs.Voice.{Ready}
@@ -98,9 +98,6 @@ no_bar k b p s d es n e = ap (so_many (owed k b 0 (key k) p s d es)) e ∙ so_ma
 -- the events of rows from number i on
 abbrev pub events_from : Rows → ℕ → List Event
 events_from r i = rest_of r.places.now r.alterations.now r.lengths.now i
-
-abbrev pub row_at : Rows → ℕ → Row
-row_at r i = record { place = get_or r.places.now i 0; alteration = get_or r.alterations.now i 0; length = get_or r.lengths.now i 0 }
 
 -- the event whose turn it is, and those behind it
 pub record Turn (r : Rows) (i : ℕ) : Type 0 where

@@ -76,12 +76,7 @@ impl Voice<'_> {
             if left == 0 {
                 continue 'events;
             }
-            // the row at an index: `Rows` gives its rows from the front
-            let row = Row {
-                place: rows.places[i],
-                alteration: rows.alterations[i],
-                length: *length,
-            };
+            let row = rows.row(i);
             let mut sign = if gone == 0 {
                 sign_of(holds, row.place, row.alteration)
             } else {

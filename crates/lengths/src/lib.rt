@@ -50,6 +50,7 @@ impl Iterator for ValuesOf {
 
 /// Writes a length within one bar as values, the largest first, over the front of `out`, and returns how many they are. Three values are enough for
 /// what is shorter than a whole note.
+// Into lent words, and how many were written is handed back: there is no heap here (a rule of the project).
 pub fn pieces(n: u32, out: &mut [u32]) -> usize
     requires { n / 192 + 3 ≤ length out.old }
     ensures wrote { out.new ≡ pieces_of n n ++ drop result out.old }

@@ -81,10 +81,7 @@ fn end_of(numbers: &[u32]) -> Option<Refusal>
     requires { length numbers.now < 4294967296 }
     ensures { said_next result ≡ end_of numbers.now }
 {
-    if numbers.len() % 4 == 0 {
-        return None;
-    }
-    Some(Refusal::Unreadable(numbers.len() as u32))
+    (numbers.len() % 4 != 0).then_some(Refusal::Unreadable(numbers.len() as u32))
 }
 
 /// Puts records last in their voices of a score, one after the other, until one cannot be.

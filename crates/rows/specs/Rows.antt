@@ -1,5 +1,5 @@
 -- What three words, and three rows of words, mean. Assumes nothing: these are definitions.
-use Rattle.std.specs.Prelude.{◌≡◌, ℕ, Bool, true, false, ◌&&◌, ◌||◌, List, [], ◌∷◌, Result, MatchResult, ◌==◌, nat_lt}
+use Rattle.std.specs.Prelude.{◌≡◌, ℕ, Bool, true, false, ◌&&◌, ◌||◌, List, [], ◌∷◌, Result, MatchResult, ◌==◌, nat_lt, slice_index}
 use Rattle.score.specs.declared.Event.{Event as EventType}
 use Rattle.score.specs.Music.{Event, note, silence, lasts, places, length_end}
 use Rattle.score.specs.Meaning.{event_meant}
@@ -37,6 +37,10 @@ zipped [] xs ds = []
 zipped (p ∷ ps) [] ds = []
 zipped (p ∷ ps) (a ∷ xs) [] = []
 zipped (p ∷ ps) (a ∷ xs) (d ∷ ds) = record { place = p; alteration = a; length = d } ∷ zipped ps xs ds
+
+-- the words of the event of an index
+abbrev pub row_at : Rows → ℕ → Row
+row_at r i = record { place = slice_index r.places.now i; alteration = slice_index r.alterations.now i; length = slice_index r.lengths.now i }
 
 -- the voice in three rows
 abbrev pub voice_in : Rows → List Event

@@ -1,11 +1,11 @@
 //! Events as words: an event is three words, and a voice is three rows of words beside one another, as it lies in lent memory.
 #![tactic(auto)]
 
-ghost use Rattle.std.specs.Prelude.{◌≡◌, ◌==◌};
+ghost use Rattle.std.specs.Prelude.{◌≡◌, ◌==◌, ◌<◌, length};
 ghost use Rattle.std.specs.Iterator.{YieldsFirst, item_count};
 ghost use Rattle.score.specs.Meaning.{event_meant};
 ghost use Rattle.score.specs.Music.{fine, fine_length, places};
-ghost use Rattle.rows.specs.Rows.{event_in, row_of, zipped, IfFits};
+ghost use Rattle.rows.specs.Rows.{event_in, row_of, row_at, zipped, IfFits};
 
 use score::{ALTERATIONS, Event, LENGTH_END, SHORTEST, SILENT};
 use std::num::TryFromIntError;
@@ -92,6 +92,22 @@ pub struct Rows<'a> {
     pub places: &'a [u32],
     pub alterations: &'a [u32],
     pub lengths: &'a [u32],
+}
+
+impl Rows<'_> {
+    /// The event of an index.
+    pub fn row(self, at: usize) -> Row
+        requires place { at < length self.places.now }
+        requires alteration { at < length self.alterations.now }
+        requires length { at < length self.lengths.now }
+        ensures { result ≡ row_at self.entry at }
+    {
+        Row {
+            place: self.places[at],
+            alteration: self.alterations[at],
+            length: self.lengths[at],
+        }
+    }
 }
 
 impl Iterator for Rows<'_> {

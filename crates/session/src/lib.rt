@@ -61,10 +61,7 @@ impl Sizes {
     fn within(self, words: usize, bytes: usize) -> Option<Sizes>
         ensures { result ≡ pick (nat_le self.words words && nat_le self.bytes bytes) (Some self) None }
     {
-        if self.words > words || self.bytes > bytes {
-            return None;
-        }
-        Some(self)
+        (self.words <= words && self.bytes <= bytes).then_some(self)
     }
 }
 

@@ -1,8 +1,7 @@
 -- A score as the code has it, in four lent rows of words: how many events each voice has, and the events of all voices in three rows. Assumes nothing:
 -- these are definitions.
-use Rattle.std.specs.Prelude.{ℕ, ◌+◌, ◌*◌, List, length, slice_index}
+use Rattle.std.specs.Prelude.{ℕ, ◌+◌, ◌*◌, List, length}
 use Rattle.score.specs.Calls.{Score}
-use Rattle.rows.specs.declared.Row.{Row}
 use Rattle.sounds.specs.Spans as over
 use Rattle.sounds.specs.Spans.{grain}
 use Rattle.sounds.specs.declared.together.Marked.{Marked}
@@ -10,10 +9,6 @@ use Rattle.sounds.specs.declared.together.Voices.{Voices}
 
 abbrev pub score_in : Voices → Score
 score_in v = over.score_in v.counts.now v.rows.places.now v.rows.alterations.now v.rows.lengths.now
-
--- the words of the event of an index
-abbrev pub row_at : Voices → ℕ → Row
-row_at v i = record { place = slice_index v.rows.places.now i; alteration = slice_index v.rows.alterations.now i; length = slice_index v.rows.lengths.now i }
 
 abbrev pub IsMarked : Voices → ℕ → List ℕ → ℕ → List ℕ → Type 0
 IsMarked v = over.Ready v.counts.now v.rows.places.now v.rows.alterations.now v.rows.lengths.now

@@ -39,7 +39,8 @@ impl<'a> From<Stored<'a>> for Voices<'a> {
 }
 
 impl Voices<'_> {
-    ghost use Rattle.sounds.specs.Scores.{score_in, row_at, all_left, IsMarked};
+    ghost use Rattle.rows.specs.Rows.{row_at};
+    ghost use Rattle.sounds.specs.Scores.{score_in, all_left, IsMarked};
 
     /// Sets the bits of all voices in empty slots, where they begin notes. Returns which event comes first in each voice from the first slot on.
     #[tactic(auto, using(crate::proofs::Walks::ticks_more))]
@@ -71,16 +72,10 @@ impl Voices<'_> {
     fn next_note(self, from: usize) -> (usize, Row)
         requires { from + silences (drop from self.rows.places.now) < length self.rows.places.now }
         ensures at { result.0 ≡ from + silences (drop from self.entry.rows.places.now) }
-        ensures row { result.1 ≡ row_at self.entry result.0 }
+        ensures row { result.1 ≡ row_at self.entry.rows result.0 }
     {
         let at = from + silences_first(&self.rows.places[from..]);
-        // the row at an index: `Rows` gives its rows from the front
-        let row = Row {
-            place: self.rows.places[at],
-            alteration: self.rows.alterations[at],
-            length: self.rows.lengths[at],
-        };
-        (at, row)
+        (at, self.rows.row(at))
     }
 
     /// Writes the notes that begin from a tick up to before another, by time, and by voice where times are the same. Returns how many they are.

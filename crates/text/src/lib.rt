@@ -244,6 +244,7 @@ fn all_of<T: Drop>(line: &[u8], read: Result<(T, &[u8]), &[u8]>) -> Result<T, Un
     }
 }
 
+/// The call that the words at the front of a line say, and what is behind it.
 fn read_words(line: &[u8]) -> Result<(Call, &[u8]), &[u8]>
     ensures { call_read (outcome result) ≡ call_words line.now }
 {
@@ -265,6 +266,7 @@ pub fn read_event_line(line: &[u8]) -> Result<Event, Unfit>
     all_of(line, read_event(line))
 }
 
+/// The number behind a name at the front of a line, and what is behind it.
 fn read_named<'a>(line: &'a [u8], name: &str) -> Result<(u32, &'a [u8]), &'a [u8]>
     ensures { outcome result ≡ named name.now line.now }
 {

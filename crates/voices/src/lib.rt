@@ -62,10 +62,7 @@ impl Span {
         requires { self.begin + end ≤ 2 ^ 32 }
         ensures { MatchOption result (end ≤ index) (λ at. (index < end) × (at ≡ self.begin + index)) }
     {
-        if index as usize >= end {
-            return None;
-        }
-        Some(self.begin + index as usize)
+        ((index as usize) < end).then_some(self.begin + index as usize)
     }
 
     /// The part of a region that the span is, of words in which the region begins at one of them.
@@ -93,10 +90,7 @@ pub fn is_fine(event: Event) -> bool
 pub(crate) fn find_row(event: Event) -> Option<Row>
     ensures { MatchOption result (fine (event_meant event) ≡ false) (λ r. (r ≡ row_of (event_meant event)) × (fine (event_meant event) ≡ true)) }
 {
-    if !is_fine(event) {
-        return None;
-    }
-    Some(Row::from(event))
+    is_fine(event).then_some(Row::from(event))
 }
 
 #[cfg(test)]

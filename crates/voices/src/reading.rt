@@ -129,20 +129,14 @@ impl<'a> Stored<'a> {
         ensures { MatchOption result (limit_in self.entry.words.now ≤ all_events (score_of self.entry.words.now)) (λ u. (u ≡ all_events (score_of self.entry.words.now)) × (u < limit_in self.entry.words.now)) }
     {
         let used = self.events_in();
-        if used >= self.words[LIMIT] as usize {
-            return None;
-        }
-        Some(used)
+        (used < self.words[LIMIT] as usize).then_some(used)
     }
 
     /// A voice's number as an index, if the voice is there.
     fn voice_index(self, voice: u32) -> Option<usize>
         ensures { MatchOption result (voices_in self.entry.words.now ≤ voice) (λ v. (v ≡ voice) × (v < voices_in self.entry.words.now)) }
     {
-        if voice >= self.words[VOICES] {
-            return None;
-        }
-        Some(voice as usize)
+        (voice < self.words[VOICES]).then_some(voice as usize)
     }
 
     /// Where the events of a voice lie, if the voice is there.
@@ -204,9 +198,6 @@ impl<'a> Stored<'a> {
         ensures { MatchOption result (ticks_end ≤ total (voice_of_score (score_of self.entry.words.now) voice) - less + more) (λ t. (t ≡ total (voice_of_score (score_of self.entry.words.now) voice) - less + more) × (t < ticks_end)) }
     {
         let ticks = self.ticks_of(voice) - less + more;
-        if ticks >= TICKS_END {
-            return None;
-        }
-        Some(ticks)
+        (ticks < TICKS_END).then_some(ticks)
     }
 }

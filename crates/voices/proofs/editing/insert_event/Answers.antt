@@ -1,12 +1,9 @@
 -- Of three regions each is done, and then the voice's count and ticks.
-use Rattle.std.proofs.Common.{◌≡◌, ◌+◌, length, ap, ◌∙◌, arith}
-use Rattle.std.proofs.lemmas.Slice.Zip.{zip_end}
-use Rattle.std.specs.Iterator.Adapters.{zip_first, zip_second}
-use Rattle.std.specs.Slice.Iter.{iter_rest}
+use Rattle.std.proofs.Common.{◌+◌, ap, ◌∙◌, arith}
 use Rattle.memory.specs.Moves.{shifted, rows_in, with_event}
 use Rattle.memory.proofs.Held.{count_at, within_limit}
 use Rattle.voices.specs.Rows.{begins_in}
-use Rattle.voices.proofs.Each.{words_of, done_to}
+use Rattle.voices.proofs.Each.{all_done}
 use Rattle.voices.proofs.editing.insert_event.Goals as goal
 
 pub overflow_add-words : goal.overflow_add-words
@@ -18,9 +15,7 @@ overflow_add-words c =
 pub returns : goal.returns
 unfolding rows_in with_event
 returns c =
-    let same = c.into_iter-begin-iterator.ensures.into_iter_gives in
-    let begins = ap (λ z. iter_rest (zip_first z)) same ∙ (ap iter_rest c.zip-begin-items.ensures.first ∙ (c.iter.ensures.rest ∙ c.begins-begins.ensures.begins)) in
-    let words = ap (λ z. iter_rest (zip_second z)) same ∙ c.zip-begin-items.ensures.second.0 in
-    let three : length c.loop-begin.yielded ≡ 3 = zip_end _ _ c.loop-begin.yielded _ _ c.next.new.self _ begins words c.loop-begin.yielded_by c.in-None.is c.next.ensures.steps in
-    let done = c.loop-begin.invariant ∙ ap (done_to (λ w m x. shifted w (m + c.args.at) (m + c.args.used) x) c.args.words.now (begins_in c.args.words.now) (words_of c.args.row)) three in
+    let done = all_done (λ w m x. shifted w (m + c.args.at) (m + c.args.used) x) c.args.words.now c.args.row c.loop-begin.yielded _ _ _ c.next.new.self _ c.into_iter-begin-iterator.ensures.into_iter_gives
+    c.zip-begin-items.ensures.first (c.iter.ensures.rest ∙ c.begins-begins.ensures.begins ∙ ap begins_in c.of.ensures) c.zip-begin-items.ensures.second.0
+    c.loop-begin.yielded_by c.in-None.is c.next.ensures.steps c.loop-begin.invariant in
     cc

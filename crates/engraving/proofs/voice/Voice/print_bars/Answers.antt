@@ -1,16 +1,18 @@
 -- Each turn of a loop writes one symbol or passes to the next event; what is owed changes as `Turns` says.
-use Rattle.std.proofs.Common.{◌≡◌, ℕ, suc, ◌+◌, ◌-◌, ◌≤◌, eqb, List, ◌∷◌, ◌++◌, length, get_or, slice_index, take, drop, Option, sym, refl, ap, ap₂, ◌∙◌, arith}
+use Rattle.std.proofs.Common.{◌≡◌, ℕ, suc, ltb, ◌+◌, ◌-◌, ◌≤◌, eqb, List, ◌∷◌, ◌++◌, length, get_or, slice_index, take, drop, Option, sym, refl, ap, ap₂, ◌∙◌, arith}
 use Rattle.std.proofs.lemmas.Bool.{eqb-false}
 use Rattle.score.specs.Music.{pick, places, Event}
 use Rattle.score.specs.Print.{Symbol, bar, pieces, lesser}
 use Rattle.score.proofs.Picks.{pick_both}
 use Rattle.laws.proofs.Laid.{lesser_both}
-use Rattle.keys.specs.Held.{sign_needed}
+use Rattle.keys.specs.Held.{sign_needed, then_holding, sign_number}
 use Rattle.laws.proofs.Rows.{Words}
+use Rattle.laws.specs.Owed.{one}
 use Rattle.wire.specs.Bytes.{symbol_bytes}
-use Rattle.keys.specs.Held.{sign_number}
+use Rattle.rows.specs.declared.Row.{Row}
+use Rattle.rows.specs.Rows.{row_at}
 use Rattle.engraving.proofs.Page.{starts, owing, enter, leave, room, write, all}
-use Rattle.engraving.proofs.Turns.{in_event, in_voice, times_three, starts_voice, Value, value_turn, values_turn, line_turn, next_bar, begins_bar, no_bar, events_from, row_at, turn, pass_turn, reach_turn, begin_turn, end_turn, no_event}
+use Rattle.engraving.proofs.Turns.{in_event, in_voice, times_three, starts_voice, Value, value_turn, values_turn, line_turn, next_bar, begins_bar, no_bar, events_from, turn, pass_turn, reach_turn, begin_turn, end_turn, no_event}
 use Rattle.engraving.proofs.voice.Voice.print_bars.Goals as goal
 use Rattle.engraving.proofs.voice.Voice.print_bars.Goals.{then-gone-eq0, else-gone-eq0}
 use Rattle.engraving.proofs.voice.Voice.print_bars.Goals.{In-Some, In-None, Then-begun-layout}
@@ -43,7 +45,7 @@ events-preserved-then-left-eq0 c =
     )
 
 pub sign_of-sign-requires : goal.sign_of-sign-requires
-sign_of-sign-requires c = (turn c.args.self.rows c.args.self.layout c.events.i c.args.self.ready c.events-test.true).words.place
+sign_of-sign-requires c = rw c.row-row.ensures (turn c.args.self.rows c.args.self.layout c.events.i c.args.self.ready c.events-test.true).words.place
 
 pub bars-init : goal.bars-init
 bars-init c =
@@ -52,13 +54,13 @@ bars-init c =
     let e = ap (λ (es : List Event). in_voice c.args.self.layout.key c.args.self.layout.bar c.events.skip c.events.begun c.events.holds es c.events.more) t.event in
     elim c.if-gone-eq0.branch [
       | then-gone-eq0 w ↦
-          let s = w.sign_of-sign.ensures in (
-            enter (owing _ c.events.invariant.0 (e ∙ begin_turn _ _ _ _ _ _ _ _ (row_at c.args.self.rows c.events.i) _ _ t.fine c.min-gone.ensures w.if-gone-eq0.true (omega arith) (omega arith)
-                (ap sign_number w.sign-is ∙ s.sign) (w.holds-is ∙ s.holds))),
+          let s = ap sign_number w.sign-is ∙ w.sign_of-sign.ensures.sign ∙ ap (λ (r : Row). sign_needed c.events.holds r.place r.alteration) c.row-row.ensures in
+          let h = w.holds-is ∙ w.sign_of-sign.ensures.holds ∙ ap (λ (r : Row). then_holding c.events.holds r.place r.alteration) c.row-row.ensures in (
+            enter (owing _ c.events.invariant.0 (e ∙ begin_turn _ _ _ _ _ _ _ _ (row_at c.args.self.rows c.events.i) _ _ t.fine c.min-gone.ensures w.if-gone-eq0.true (omega arith) (omega arith) s h)),
             omega arith,
             omega arith,
             omega (arith, w.if-gone-eq0.true, x.three),
-            omega (arith, ap sign_number w.sign-is ∙ s.sign, sign_small c.events.holds (get_or c.args.self.rows.places.now c.events.i 0) (get_or c.args.self.rows.alterations.now c.events.i 0) x),
+            omega (arith, s, sign_small c.events.holds (get_or c.args.self.rows.places.now c.events.i 0) (get_or c.args.self.rows.alterations.now c.events.i 0) x),
             omega arith,
             omega arith,
             omega arith,
@@ -76,7 +78,7 @@ bars-init c =
     ]
 
 pub symbol_of-requires-clause-place : goal.symbol_of-requires-clause-place
-symbol_of-requires-clause-place c = (turn c.args.self.rows c.args.self.layout c.events.i c.args.self.ready c.events-test.true).words.place
+symbol_of-requires-clause-place c = rw c.row-row.ensures (turn c.args.self.rows c.args.self.layout c.events.i c.args.self.ready c.events-test.true).words.place
 
 -- a value and a bar line as they come next
 value : (c : In-Some) →
@@ -108,7 +110,7 @@ pub values-preserved : goal.values-preserved
 values-preserved c =
     let v = value (goal.at.values-preserved c).In-Some in (
       write _ _ c.write-at.new.out c.write-at.result c.values.invariant.0 v.owes (omega arith) c.write-at.ensures.many
-          (c.write-at.ensures.wrote ∙ ap (λ (x : Symbol). symbol_bytes x ++ drop c.write-at.result (take (length c.values.out - c.values.at) (drop c.values.at c.values.out))) c.symbol_of.ensures),
+          (c.write-at.ensures.wrote ∙ ap (λ (x : Symbol). symbol_bytes x ++ drop c.write-at.result (take (length c.values.out - c.values.at) (drop c.values.at c.values.out))) (c.symbol_of.ensures ∙ ap (λ (r : Row). one r.place (sign_number c.values.sign) c.in-Some.value (ltb 0 (c.values.left - c.in-Some.value))) c.row-row.ensures)),
       v.fits,
       omega (arith, v.three),
       omega (arith, v.three, v.within),

@@ -4,7 +4,7 @@ use Rattle.score.specs.Music.{places}
 use Rattle.score.specs.Print.{Symbol, pieces, lesser}
 use Rattle.keys.specs.Held.{sign_number}
 use Rattle.rows.specs.declared.Rows.{Rows}
-use Rattle.rows.specs.Rows.{voice_in}
+use Rattle.rows.specs.Rows.{voice_in, row_at}
 use Rattle.engraving.specs.Shown.{asked_for}
 use Rattle.engraving.proofs.Page.{Page}
 use Rattle.engraving.proofs.Turns.{in_event, in_voice, events_from}
@@ -18,7 +18,7 @@ whole_of r y from n = asked_for y.key y.bar (voice_in r) from n
 abbrev pub invariant-values : goal.invariant-values
 invariant-values l =
     Page (whole_of l.rows l.layout l.from l.count) l.initial.out l.out l.at
-    (in_event l.layout.key l.layout.bar l.begun l.holds l.row.place (sign_number l.sign) l.left (events_from l.rows (l.i + 1)) l.more)
+    (in_event l.layout.key l.layout.bar l.begun l.holds (row_at l.rows l.i).place (sign_number l.sign) l.left (events_from l.rows (l.i + 1)) l.more)
     × (l.begun ≤ l.layout.bar) × (l.begun % 3 ≡ 0) × (l.left % 3 ≡ 0) × (sign_number l.sign ≤ 5) × (l.initial.at ≤ l.at)
     × (pieces l.value-iterator.0 l.value-iterator.0 ≡ pieces (lesser l.left (l.layout.bar - l.begun)) (lesser l.left (l.layout.bar - l.begun)))
     × (l.begun + l.left ≡ l.initial.begun + l.initial.left)
@@ -26,7 +26,7 @@ invariant-values l =
 abbrev pub invariant-bars : goal.invariant-bars
 invariant-bars l =
     Page (whole_of l.rows l.layout l.from l.count) l.initial.out l.out l.at
-    (in_event l.layout.key l.layout.bar l.begun l.holds l.row.place (sign_number l.sign) l.left (events_from l.rows (l.i + 1)) l.more)
+    (in_event l.layout.key l.layout.bar l.begun l.holds (row_at l.rows l.i).place (sign_number l.sign) l.left (events_from l.rows (l.i + 1)) l.more)
     × (l.begun < l.layout.bar) × (l.begun % 3 ≡ 0) × (l.left % 3 ≡ 0) × (sign_number l.sign ≤ 5) × (l.initial.at ≤ l.at) × (0 < l.more)
     × (length l.holds ≡ places)
 
