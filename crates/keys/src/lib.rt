@@ -67,9 +67,5 @@ pub fn sign_of(holds: &mut Holds, place: u32, alteration: u32) -> Option<u32>
     }
     let held = holds[place as usize];
     holds[place as usize] = alteration;
-    if held == alteration {
-        None
-    } else {
-        Some(alteration)
-    }
+    (held != alteration).then_some(alteration)
 }

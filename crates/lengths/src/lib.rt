@@ -57,7 +57,8 @@ pub fn pieces(n: u32, out: &mut [u32]) -> usize
     ensures many { result ≡ length (pieces_of n n) }
     ensures few { result ≤ n / 192 + 3 }
 {
-    // by its index: of a zip with `out.iter_mut()` the loop's invariant knows the words that are left and not `out` (tried)
+    // by their index: of a zip with `out.iter_mut()` the loop's invariant knows the words that are left and not `out` (tried); and behind a `for` it is not known
+    // how many there were, so they are counted once more (no plainer by hand)
     for (at, value) in ValuesOf(n).enumerate() {
         out[at] = value;
     }

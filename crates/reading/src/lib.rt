@@ -201,10 +201,10 @@ fn next_symbol(bytes: &[u8]) -> Option<Symbol>
     ensures { option_map symbol_meant result ≡ playable (symbol_of bytes.now) }
 {
     let symbol = Symbol::read(bytes)?;
-    if let Symbol::Head { place, sign, .. } = symbol {
-        if place as usize >= PLACES || sign as u32 > ALTERATIONS {
-            return None;
-        }
+    if let Symbol::Head { place, sign, .. } = symbol
+        && (place as usize >= PLACES || sign as u32 > ALTERATIONS)
+    {
+        return None;
     }
     Some(symbol)
 }

@@ -87,6 +87,7 @@ impl TryFrom<Row> for Event {
 
 /// A voice in three rows of words: of each event its place, its alteration and its length. As an iterator it gives the events from the front on, and the
 /// rows that are left; where one row is shorter, it ends with that one.
+// Events lie in three rows beside one another, and not as structs in one: so they lie in lent memory (a rule of the project).
 #[derive(Clone, Copy, PartialEq, Eq, Debug)]
 pub struct Rows<'a> {
     pub places: &'a [u32],

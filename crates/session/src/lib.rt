@@ -66,6 +66,7 @@ impl Sizes {
 }
 
 /// Opens a score without events in lent memory, or changes nothing.
+// Each check hands on its value or returns the refusal (a rule of the project).
 pub fn open(words: &mut [u32], bytes: &mut [u8], opening: Opening) -> Result<(), Refusal>
     ensures said { said_done result ≡ open_answer opening (length words.old) (length bytes.old) }
     ensures left { MatchResult result (λ _. Opened opening words.old bytes.old words.new bytes.new) (λ _. Unchanged words.old bytes.old words.new bytes.new) }

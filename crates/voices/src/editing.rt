@@ -8,7 +8,7 @@ ghost use Rattle.memory.specs.Words.{Holds, answer_at, next_words};
 ghost use Rattle.voices.specs.Said.{said_done};
 
 use super::moves::{insert_at, remove_at};
-use super::{COUNTS, Stored, VOICES};
+use super::{COUNTS, Stored};
 use rows::Row;
 use score::{Event, Refusal};
 
@@ -31,8 +31,9 @@ fn insert_event(words: &mut [u32], voice: usize, used: usize, at: usize, ticks: 
     requires room { used < limit_in words.old }
     ensures { words.new ≡ with_event words.old voice used at ticks row.place row.alteration row.length }
 {
-    let begins = Stored::of(words).begins();
-    let ticks_at = COUNTS + words[VOICES] as usize + voice;
+    let score = Stored::of(words);
+    let begins = score.begins();
+    let ticks_at = score.ticks_at(voice);
     let count = words[COUNTS + voice];
     let row = [row.place, row.alteration, row.length];
     for (begin, word) in begins.iter().zip(&row) {
@@ -51,8 +52,9 @@ fn remove_event(words: &mut [u32], voice: usize, used: usize, at: usize, ticks: 
     requires room { used ≤ limit_in words.old }
     ensures { words.new ≡ without_event words.old voice used at ticks }
 {
-    let begins = Stored::of(words).begins();
-    let ticks_at = COUNTS + words[VOICES] as usize + voice;
+    let score = Stored::of(words);
+    let begins = score.begins();
+    let ticks_at = score.ticks_at(voice);
     let count = words[COUNTS + voice];
     for begin in &begins {
         remove_at(words, begin + at, begin + used);
@@ -68,8 +70,9 @@ fn set_event(words: &mut [u32], voice: usize, at: usize, ticks: u32, row: Row)
     requires within { at < limit_in words.old }
     ensures { words.new ≡ with_other words.old voice at ticks row.place row.alteration row.length }
 {
-    let begins = Stored::of(words).begins();
-    let ticks_at = COUNTS + words[VOICES] as usize + voice;
+    let score = Stored::of(words);
+    let begins = score.begins();
+    let ticks_at = score.ticks_at(voice);
     let row = [row.place, row.alteration, row.length];
     for (begin, word) in begins.iter().zip(&row) {
         words[begin + at] = *word;

@@ -16,6 +16,6 @@ pub returns : goal.returns
 unfolding rows_in with_event
 returns c =
     let done = all_done (λ w m x. shifted w (m + c.args.at) (m + c.args.used) x) c.args.words.now c.args.row c.loop-begin.yielded _ _ _ c.next.new.self _ c.into_iter-begin-iterator.ensures.into_iter_gives
-    c.zip-begin-items.ensures.first (c.iter.ensures.rest ∙ c.begins-begins.ensures.begins ∙ ap begins_in c.of.ensures) c.zip-begin-items.ensures.second.0
+    c.zip-begin-items.ensures.first (c.iter.ensures.rest ∙ c.begins-begins.ensures.begins ∙ ap begins_in c.of-score.ensures) c.zip-begin-items.ensures.second.0
     c.loop-begin.yielded_by c.in-None.is c.next.ensures.steps c.loop-begin.invariant in
     cc
