@@ -1,12 +1,11 @@
 //! The engraver for C: functions over lent words and bytes, each of which returns one signed number.
 #![tactic(auto)]
 
-ghost use Rattle.std.specs.Prelude.{◌≡◌, ◌<◌, true, false, length, Some, None, MatchResult, nat_le};
+ghost use Rattle.std.specs.Prelude.{◌≡◌, ◌<◌, true, false, length, Some, None, nat_le};
 ghost use Rattle.score.specs.Music.{pick};
-ghost use Rattle.score.specs.declared.Refusal.TheVariants.{BadOpening};
 ghost use Rattle.score.specs.Meaning.{refusal_number, refusal_place};
 ghost use Rattle.wire.specs.Reading.{said_of};
-ghost use Rattle.session.specs.Session.{opens, sizes_of, open_answer, words_taken, Ready, Opened, Unchanged};
+ghost use Rattle.session.specs.Session.{open_answer, words_taken, Ready, Opened, Unchanged};
 ghost use Rattle.records.specs.Records.{said_next};
 ghost use Rattle.capi.specs.Signed.{turned_away, if_done, signed, signed_by, opening_of, words_number, bytes_number, header_of, words_fit, taken_by, header_fits, Replied};
 ghost use Rattle.capi.specs.Put.{ReadyWords, RecordsPut};
@@ -45,21 +44,14 @@ fn opening_of(key: u32, bar: u32, voices: u32, events: u32) -> Opening
     }
 }
 
-/// What an opening asks for, or its refusal.
-fn asked(opening: Opening) -> Result<Sizes, Refusal>
-    ensures { MatchResult result (λ s. Some s ≡ sizes_of opening) (λ f. (opens opening ≡ false) × (f ≡ BadOpening)) }
-{
-    Sizes::of(opening).ok_or(Refusal::BadOpening)
-}
-
-// Two exported names over `asked`: each returns one field of what is asked (C interface).
+// Two exported names over `Sizes::of`: each returns one field of what is asked (C interface).
 
 /// How many words an opening asks for, or a refusal.
 #[unsafe(no_mangle)]
 pub extern "C" fn engraver_words(key: u32, bar: u32, voices: u32, events: u32) -> i64
     ensures { result ≡ words_number (opening_of key bar voices events) }
 {
-    match asked(opening_of(key, bar, voices, events)) {
+    match Sizes::of(opening_of(key, bar, voices, events)) {
         Ok(sizes) => sizes.words as i64,
         Err(refusal) => refuse(refusal),
     }
@@ -70,7 +62,7 @@ pub extern "C" fn engraver_words(key: u32, bar: u32, voices: u32, events: u32) -
 pub extern "C" fn engraver_bytes(key: u32, bar: u32, voices: u32, events: u32) -> i64
     ensures { result ≡ bytes_number (opening_of key bar voices events) }
 {
-    match asked(opening_of(key, bar, voices, events)) {
+    match Sizes::of(opening_of(key, bar, voices, events)) {
         Ok(sizes) => sizes.bytes as i64,
         Err(refusal) => refuse(refusal),
     }
@@ -109,7 +101,7 @@ fn header(words: &[u32]) -> Option<Opening>
 fn taken(words: &[u32]) -> Option<Sizes>
     ensures { result ≡ taken_by words.now }
 {
-    let sizes = Sizes::of(header(words)?)?;
+    let sizes = Sizes::of(header(words)?).ok()?;
     (sizes.words <= words.len()).then_some(sizes)
 }
 

@@ -49,23 +49,19 @@ mod tests {
 
     const SHARP_SIGN: u8 = 4;
 
+    // whether a head is tied to the next
+    const TIED: bool = true;
+
+    const UNTIED: bool = false;
+
     const BAR: Symbol = Symbol::BarLine;
 
-    fn head(place: u8, sign: u8, value: u16) -> Symbol {
+    fn head(place: u8, sign: u8, value: u16, tied: bool) -> Symbol {
         Symbol::Head {
             place,
             sign,
             value,
-            tied: false,
-        }
-    }
-
-    fn tied(place: u8, sign: u8, value: u16) -> Symbol {
-        Symbol::Head {
-            place,
-            sign,
-            value,
-            tied: true,
+            tied,
         }
     }
 
@@ -137,9 +133,9 @@ mod tests {
             voice![(C4, PLAIN, 48), (D4, PLAIN, 48), (E4, PLAIN, 96)],
             3,
             &[
-                head(C4, NONE, 48),
-                head(D4, NONE, 48),
-                head(E4, NONE, 96),
+                head(C4, NONE, 48, UNTIED),
+                head(D4, NONE, 48, UNTIED),
+                head(E4, NONE, 96, UNTIED),
                 BAR,
             ],
         )?;
@@ -150,11 +146,11 @@ mod tests {
             voice![(F4, SHARP, 96), (F4, SHARP, 48), (F4, PLAIN, 96)],
             3,
             &[
-                head(F4, SHARP_SIGN, 96),
-                head(F4, NONE, 48),
-                tied(F4, NATURAL, 48),
+                head(F4, SHARP_SIGN, 96, UNTIED),
+                head(F4, NONE, 48, UNTIED),
+                head(F4, NATURAL, 48, TIED),
                 BAR,
-                head(F4, NONE, 48),
+                head(F4, NONE, 48, UNTIED),
             ],
         )?;
         prints(
@@ -164,10 +160,10 @@ mod tests {
             voice![(F4, SHARP, 96), (F4, PLAIN, 96), (F4, SHARP, 192)],
             3,
             &[
-                head(F4, NONE, 96),
-                head(F4, NATURAL, 96),
+                head(F4, NONE, 96, UNTIED),
+                head(F4, NATURAL, 96, UNTIED),
                 BAR,
-                head(F4, NONE, 192),
+                head(F4, NONE, 192, UNTIED),
                 BAR,
             ],
         )
@@ -182,12 +178,12 @@ mod tests {
             voice![(B3, PLAIN, 120), (SILENT, 0, 60), (E3, FLAT, 48)],
             2,
             &[
-                tied(B3, NONE, 96),
-                head(B3, NONE, 24),
+                head(B3, NONE, 96, TIED),
+                head(B3, NONE, 24, UNTIED),
                 rest(24),
                 BAR,
                 rest(36),
-                head(E3, FLAT_SIGN, 48),
+                head(E3, FLAT_SIGN, 48, UNTIED),
             ],
         )?;
         prints(
@@ -197,12 +193,12 @@ mod tests {
             voice![(C5, SHARP, 240), (C5, PLAIN, 48)],
             2,
             &[
-                tied(C5, SHARP_SIGN, 96),
+                head(C5, SHARP_SIGN, 96, TIED),
                 BAR,
-                tied(C5, NONE, 96),
+                head(C5, NONE, 96, TIED),
                 BAR,
-                head(C5, NONE, 48),
-                head(C5, NONE, 48),
+                head(C5, NONE, 48, UNTIED),
+                head(C5, NONE, 48, UNTIED),
                 BAR,
             ],
         )?;
@@ -219,15 +215,15 @@ mod tests {
             ],
             4,
             &[
-                tied(E4, NONE, 48),
-                tied(E4, NONE, 12),
-                head(E4, NONE, 3),
-                tied(E4, NATURAL, 24),
-                head(E4, NONE, 9),
-                head(E5, NONE, 48),
+                head(E4, NONE, 48, TIED),
+                head(E4, NONE, 12, TIED),
+                head(E4, NONE, 3, UNTIED),
+                head(E4, NATURAL, 24, TIED),
+                head(E4, NONE, 9, UNTIED),
+                head(E5, NONE, 48, UNTIED),
                 rest(48),
                 BAR,
-                head(E4, NATURAL, 48),
+                head(E4, NATURAL, 48, UNTIED),
             ],
         )?;
         prints(
@@ -239,9 +235,9 @@ mod tests {
             &[
                 rest(192),
                 BAR,
-                tied(G4, NONE, 192),
+                head(G4, NONE, 192, TIED),
                 BAR,
-                head(G4, NONE, 192),
+                head(G4, NONE, 192, UNTIED),
                 BAR,
             ],
         )
@@ -277,9 +273,9 @@ mod tests {
             rows,
             3,
             &[
-                head(F4, SHARP_SIGN, 48),
-                head(F4, NONE, 48),
-                head(F4, NONE, 48),
+                head(F4, SHARP_SIGN, 48, UNTIED),
+                head(F4, NONE, 48, UNTIED),
+                head(F4, NONE, 48, UNTIED),
             ],
         )?;
         prints(
@@ -289,10 +285,10 @@ mod tests {
             rows,
             3,
             &[
-                head(F4, SHARP_SIGN, 48),
-                head(F4, NONE, 48),
+                head(F4, SHARP_SIGN, 48, UNTIED),
+                head(F4, NONE, 48, UNTIED),
                 BAR,
-                head(F4, SHARP_SIGN, 48),
+                head(F4, SHARP_SIGN, 48, UNTIED),
             ],
         )
     }
@@ -306,10 +302,10 @@ mod tests {
             voice![(C4, PLAIN, 96), (F4, SHARP, 192)],
             2,
             &[
-                head(C4, NONE, 96),
-                tied(F4, SHARP_SIGN, 96),
+                head(C4, NONE, 96, UNTIED),
+                head(F4, SHARP_SIGN, 96, TIED),
                 BAR,
-                head(F4, NONE, 96),
+                head(F4, NONE, 96, UNTIED),
             ],
         )
     }
@@ -325,11 +321,11 @@ mod tests {
             voice![(C5, SHARP, 144), (C5, PLAIN, 24), (C5, SHARP, 24)],
             3,
             &[
-                tied(C5, SHARP_SIGN, 96),
+                head(C5, SHARP_SIGN, 96, TIED),
                 BAR,
-                head(C5, NONE, 48),
-                head(C5, NONE, 24),
-                head(C5, SHARP_SIGN, 24),
+                head(C5, NONE, 48, UNTIED),
+                head(C5, NONE, 24, UNTIED),
+                head(C5, SHARP_SIGN, 24, UNTIED),
                 BAR,
             ],
         )
@@ -339,7 +335,11 @@ mod tests {
     fn a_natural_is_not_left_out_because_another_voice_had_one(
         rt: HostRuntime,
     ) -> Result<(), Fail> {
-        let natural = [head(F4, NATURAL, 96), head(F4, NONE, 96), BAR];
+        let natural = [
+            head(F4, NATURAL, 96, UNTIED),
+            head(F4, NONE, 96, UNTIED),
+            BAR,
+        ];
         prints(
             &rt,
             8,
@@ -383,17 +383,17 @@ mod tests {
         assert!(rt;
             are(
                 bars_of(&before, 1, 1),
-                &[head(E4, NONE, 96), head(C4, NONE, 96), BAR],
+                &[head(E4, NONE, 96, UNTIED), head(C4, NONE, 96, UNTIED), BAR],
             )
         );
         assert!(rt;
             are(
                 bars_of(&after, 1, 1),
-                &[head(F4, NONE, 96), head(C4, NONE, 96), BAR],
+                &[head(F4, NONE, 96, UNTIED), head(C4, NONE, 96, UNTIED), BAR],
             )
         );
-        assert!(rt; are(bars_of(&before, 2, 1), &[head(D4, NONE, 192), BAR]));
-        assert!(rt; are(bars_of(&after, 2, 1), &[head(D4, NONE, 192), BAR]));
+        assert!(rt; are(bars_of(&before, 2, 1), &[head(D4, NONE, 192, UNTIED), BAR]));
+        assert!(rt; are(bars_of(&after, 2, 1), &[head(D4, NONE, 192, UNTIED), BAR]));
         Ok(())
     }
 
@@ -405,7 +405,7 @@ mod tests {
             192,
             voice![(C4, PLAIN, 36), (D4, PLAIN, 12)],
             2,
-            &[head(C4, NONE, 36), head(D4, NONE, 12)],
+            &[head(C4, NONE, 36, UNTIED), head(D4, NONE, 12, UNTIED)],
         )?;
         prints(&rt, 7, 192, voice![(SILENT, 0, 48)], 0, &[rest(48)])
     }

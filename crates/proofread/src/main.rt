@@ -117,6 +117,7 @@ impl Voice {
     }
 
     /// What is heard of it, event by event.
+    // Not `sounds::Notes`: that goes over a voice of a stored score, whose times fit their fields. Of these rows that is not known: nothing may overflow.
     fn notes(&self, heap: Global) -> Result<Vec<Heard>, AllocError> {
         let mut notes = Vec::new(heap);
         let mut start = 0u64;

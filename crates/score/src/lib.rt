@@ -118,6 +118,7 @@ pub struct Layout {
 }
 
 /// What a score is opened with: its key, a bar's length in ticks, how many voices it has, and how many events there may be in all.
+// Key and bar lie bare: C and a text give the four numbers, and a score's header has them, one after the other.
 #[derive(Clone, Copy, PartialEq, Eq, Debug)]
 pub struct Opening {
     pub key: u32,
@@ -171,6 +172,18 @@ impl Layout {
         ensures { result ≡ good_layout self }
     {
         self.key <= LAST_KEY && self.bar > 0 && self.bar <= LONGEST_BAR && self.bar % SHORTEST == 0
+    }
+}
+
+impl Opening {
+    /// How a score that is opened so is laid out.
+    pub fn layout(self) -> Layout
+        ensures { result ≡ record { key = self.key; bar = self.bar } }
+    {
+        Layout {
+            key: self.key,
+            bar: self.bar,
+        }
     }
 }
 

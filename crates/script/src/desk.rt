@@ -85,7 +85,7 @@ fn served(opening: Opening) -> Result<Sizes, Refusal>
     if opening.voices > SERVED_VOICES || opening.events > SERVED_EVENTS {
         return Err(Refusal::BadOpening);
     }
-    Sizes::of(opening).ok_or(Refusal::BadOpening)
+    Sizes::of(opening)
 }
 
 /// Opens a score if it is one that is served, and answers all lines.

@@ -39,7 +39,8 @@ fn says_something(line: &[u8]) -> bool
 /// The lines of a text that say something and have not been given yet, front to back.
 #[derive(Clone, Copy, PartialEq, Eq, Debug)]
 pub struct Lines<'a> {
-    text: &'a [u8],
+    /// The text from the next line on.
+    pub text: &'a [u8],
 }
 
 impl<'a> Lines<'a> {

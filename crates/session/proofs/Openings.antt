@@ -1,5 +1,5 @@
 -- What opening leaves in lent memory. Assumes nothing.
-use Rattle.std.proofs.Common.{◌≡◌, ℕ, ◌-◌, ◌≤◌, Bool, true, false, ◌&&◌, leb, List, ◌++◌, length, drop, replicate, Some, None, sym, refl, ap, ◌∙◌, subst, arith}
+use Rattle.std.proofs.Common.{◌≡◌, ℕ, ◌-◌, ◌≤◌, Bool, true, false, ◌&&◌, leb, List, ◌++◌, length, drop, replicate, Ok, Err, sym, refl, ap, ◌∙◌, subst, arith}
 use borrow.Rule.Slice.PartMut.{post_of, Post-is}
 use lib.ListN.{length-replicate}
 use Rattle.std.proofs.lemmas.List.{length-append}
@@ -15,6 +15,7 @@ use Rattle.memory.proofs.Stored.{length_stored}
 use Rattle.memory.proofs.Held.{holds_stored}
 use Rattle.session.specs.Session.{limits_for, layout_for, opens, sizes_of, open_answer, bytes_taken, Opened}
 use Rattle.score.specs.declared.Opening.{Opening}
+use Rattle.score.specs.declared.Refusal.TheVariants.{TooLittleMemory}
 use Rattle.session.specs.declared.Sizes.{Sizes}
 use Rattle.session.proofs.Lent.{memory_front, untouched, ready}
 
@@ -33,9 +34,9 @@ pub holds_blank : (o : Opening) → opens o ≡ true → Holds (stored (limits_f
 holds_blank o e = let g = opens_good o e in holds_stored (limits_for o) (layout_for o) (empty_voices o.voices) g.1 g.0 (kept_empty (limits_for o))
 
 -- sizes that were found, and that there is room for
-some_picked : {A : Type 0} (x : Bool) (a b : A) → Some a ≡ pick x (Some b) None → (x ≡ true) × (a ≡ b)
-some_picked true a b e = (refl, cc)
-some_picked false a b e = absurd (let z : ◌≡◌ {A = ℕ} 0 1 = cc in omega arith)
+ok_picked : {A E : Type 0} (x : Bool) (a b : A) (f : E) → Ok a ≡ pick x (Ok b) (Err f) → (x ≡ true) × (a ≡ b)
+ok_picked true a b f e = (refl, cc)
+ok_picked false a b f e = absurd (let z : ◌≡◌ {A = ℕ} 0 1 = cc in omega arith)
 
 pub record Sized (o : Opening) (t : Sizes) (words bytes : ℕ) : Type 0 where
   pub fits : opens o ≡ true
@@ -46,11 +47,11 @@ pub record Sized (o : Opening) (t : Sizes) (words bytes : ℕ) : Type 0 where
   pub said : done ≡ open_answer o words bytes
 
 pub sized :
-    (o : Opening) (s t : Sizes) (words bytes : ℕ) → Some s ≡ sizes_of o → Some t ≡ pick (leb s.words words && leb s.bytes bytes) (Some s) None
+    (o : Opening) (s t : Sizes) (words bytes : ℕ) → Ok s ≡ sizes_of o → Ok t ≡ pick (leb s.words words && leb s.bytes bytes) (Ok s) (Err TooLittleMemory)
     → Sized o t words bytes
 sized o s t words bytes e f =
-    let p = some_picked _ _ _ e in
-    let q = some_picked _ _ _ f in
+    let p = ok_picked _ _ _ _ e in
+    let q = ok_picked _ _ _ _ f in
     let r = and_parts _ _ q.0 in
     let w : t.words ≡ words_asked o.voices o.events = ap (λ (x : Sizes). x.words) (q.1 ∙ p.1) in
     let b : t.bytes ≡ bytes_asked o.events = ap (λ (x : Sizes). x.bytes) (q.1 ∙ p.1) in

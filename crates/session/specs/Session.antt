@@ -1,8 +1,9 @@
 -- Lent memory as a session keeps it: what opening leaves there, and what a call leaves there and is answered. Assumes nothing: these are definitions.
-use Rattle.std.specs.Prelude.{◌≡◌, ℕ, ◌%◌, ◌≤◌, Bool, true, ◌&&◌, List, ◌++◌, length, take, drop, Some, None, Ok, Err, Option, Result, ◌==◌, nat_le, nat_lt}
+use Rattle.std.specs.Prelude.{◌≡◌, ℕ, ◌%◌, ◌≤◌, Bool, true, ◌&&◌, List, ◌++◌, length, take, drop, Ok, Err, Result, ◌==◌, nat_le, nat_lt}
 use Rattle.score.specs.declared.Answer.{Answer as AnswerType}
 use Rattle.score.specs.declared.Opening.{Opening}
 use Rattle.score.specs.declared.Refusal.{Refusal}
+use Rattle.score.specs.declared.Refusal.TheVariants.{BadOpening}
 use Rattle.score.specs.Meaning.{refusal_meant}
 use Rattle.score.specs.Music.{pick}
 use Rattle.score.specs.Calls.{Call, Answer, done, refused, Limits, Layout}
@@ -34,8 +35,8 @@ opens o =
 abbrev pub sizes_for : ℕ → ℕ → Sizes
 sizes_for voices events = record { words = words_asked voices events; bytes = bytes_asked events }
 
-abbrev pub sizes_of : Opening → Option Sizes
-sizes_of o = pick (opens o) (Some (sizes_for o.voices o.events)) None
+abbrev pub sizes_of : Opening → Result Sizes Refusal
+sizes_of o = pick (opens o) (Ok (sizes_for o.voices o.events)) (Err BadOpening)
 
 -- what is answered to an opening, in so many words and bytes
 abbrev pub open_answer : Opening → ℕ → ℕ → Answer

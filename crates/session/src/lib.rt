@@ -1,7 +1,8 @@
 //! The session: a score is opened in lent words and bytes, and calls are answered there.
 #![tactic(auto)]
 
-ghost use Rattle.std.specs.Prelude.{◌≡◌, ◌≤◌, ◌&&◌, length, Some, None, MatchResult, nat_le};
+ghost use Rattle.std.specs.Prelude.{◌≡◌, ◌≤◌, ◌&&◌, length, Ok, Err, MatchResult, nat_le};
+ghost use Rattle.score.specs.declared.Refusal.TheVariants.{TooLittleMemory};
 ghost use Rattle.score.specs.Meaning.{call_meant};
 ghost use Rattle.score.specs.Music.{pick};
 ghost use Rattle.voices.specs.Said.{said_done};
@@ -13,7 +14,7 @@ mod answers;
 
 use answers::answer;
 pub use score::Opening;
-use score::{Call, Layout, MOST_EVENTS, MOST_VOICES, Refusal, Sound};
+use score::{Call, MOST_EVENTS, MOST_VOICES, Refusal, Sound};
 use voices::{COUNTS, LIMIT, StoredMut, VOICES, lay_out};
 use wire::{Item, read_call, write_refused};
 
@@ -29,20 +30,16 @@ pub struct Sizes {
 
 impl Sizes {
     /// How many words and bytes an opening asks for, unless it is out of range.
-    pub fn of(opening: Opening) -> Option<Sizes>
+    pub fn of(opening: Opening) -> Result<Sizes, Refusal>
         ensures { result ≡ sizes_of opening }
     {
-        let layout = Layout {
-            key: opening.key,
-            bar: opening.bar,
-        };
-        if !layout.is_good() {
-            return None;
+        if !opening.layout().is_good() {
+            return Err(Refusal::BadOpening);
         }
         if opening.voices == 0 || opening.voices > MOST_VOICES || opening.events > MOST_EVENTS {
-            return None;
+            return Err(Refusal::BadOpening);
         }
-        Some(Sizes::taken(opening.voices, opening.events))
+        Ok(Sizes::taken(opening.voices, opening.events))
     }
 
     /// How many words and bytes a score of so many voices and at most so many events takes.
@@ -58,10 +55,14 @@ impl Sizes {
     }
 
     /// The sizes, if there are so many words and bytes.
-    fn within(self, words: usize, bytes: usize) -> Option<Sizes>
-        ensures { result ≡ pick (nat_le self.words words && nat_le self.bytes bytes) (Some self) None }
+    fn within(self, words: usize, bytes: usize) -> Result<Sizes, Refusal>
+        ensures { result ≡ pick (nat_le self.words words && nat_le self.bytes bytes) (Ok self) (Err TooLittleMemory) }
     {
-        (self.words <= words && self.bytes <= bytes).then_some(self)
+        if self.words <= words && self.bytes <= bytes {
+            Ok(self)
+        } else {
+            Err(Refusal::TooLittleMemory)
+        }
     }
 }
 
@@ -71,16 +72,11 @@ pub fn open(words: &mut [u32], bytes: &mut [u8], opening: Opening) -> Result<(),
     ensures said { said_done result ≡ open_answer opening (length words.old) (length bytes.old) }
     ensures left { MatchResult result (λ _. Opened opening words.old bytes.old words.new bytes.new) (λ _. Unchanged words.old bytes.old words.new bytes.new) }
 {
-    let Some(asked) = Sizes::of(opening) else {
-        return Err(Refusal::BadOpening);
-    };
-    let Some(asked) = asked.within(words.len(), bytes.len()) else {
-        return Err(Refusal::TooLittleMemory);
-    };
+    let asked = Sizes::of(opening)?;
     let Sizes {
         words: taken,
         bytes: room,
-    } = asked;
+    } = asked.within(words.len(), bytes.len())?;
     lay_out(&mut words[0..taken], opening);
     bytes[0..room].fill(0);
     Ok(())

@@ -11,7 +11,7 @@ ghost use Rattle.words.specs.Words.{outcome};
 use score::{Call, Event};
 use std::error::Error;
 use std::fmt;
-use words::{read_one_of, read_place, read_spaced, read_word};
+use words::{Read, read_one_of, read_place, read_spaced, read_word};
 
 /// The number under which a line that cannot be read stands in the list of refusals.
 // Not `Refusal::Unreadable`: its place has four bytes, and a line may be longer.
@@ -56,7 +56,7 @@ pub enum Verb {
 /// Reads how an event begins: with a step, or as a silence.
 // Not notation's table of steps: silence is an eighth word, and which of all words fits furthest says where a line is refused.
 #[tactic(auto, unfolding(crate::specs::Lines::beginning))]
-fn read_beginning(line: &[u8]) -> Result<(Beginning, &[u8]), &[u8]>
+fn read_beginning(line: &[u8]) -> Read<Beginning>
     ensures { outcome result ≡ beginning line.now }
 {
     read_one_of(
@@ -76,7 +76,7 @@ fn read_beginning(line: &[u8]) -> Result<(Beginning, &[u8]), &[u8]>
 
 /// Reads one of the alterations but for none.
 #[tactic(auto, unfolding(crate::specs::Lines::alteration_word))]
-fn read_alteration_word(line: &[u8]) -> Result<(u8, &[u8]), &[u8]>
+fn read_alteration_word(line: &[u8]) -> Read<u8>
     ensures { outcome result ≡ alteration_word line.now }
 {
     read_one_of(
@@ -91,18 +91,18 @@ fn read_alteration_word(line: &[u8]) -> Result<(u8, &[u8]), &[u8]>
 }
 
 /// Reads how a note is altered: a space leads to an alteration, else there is none.
-fn read_alteration(line: &[u8]) -> Result<(u8, &[u8]), &[u8]>
+fn read_alteration(line: &[u8]) -> Read<u8>
     ensures { outcome result ≡ alteration line.now }
 {
     match read_word(line, b" ") {
-        Ok((_, rest)) => read_alteration_word(rest),
+        Ok(rest) => read_alteration_word(rest),
         // an alteration is a number (see `Event`), and none is 2
         Err(_) => Ok((2, line)),
     }
 }
 
 /// Reads a length.
-fn read_length(line: &[u8]) -> Result<(u16, &[u8]), &[u8]>
+fn read_length(line: &[u8]) -> Read<u16>
     ensures { outcome result ≡ length_on line.now }
 {
     let (length, rest) = read_spaced(line, u16::MAX as u32)?;
@@ -110,7 +110,7 @@ fn read_length(line: &[u8]) -> Result<(u16, &[u8]), &[u8]>
 }
 
 /// Reads a note behind its step.
-fn read_note(line: &[u8], step: u8) -> Result<(Event, &[u8]), &[u8]>
+fn read_note(line: &[u8], step: u8) -> Read<Event>
     ensures { event_read (outcome result) ≡ note_on step line.now }
 {
     let (alteration, rest) = read_alteration(line)?;
@@ -127,7 +127,7 @@ fn read_note(line: &[u8], step: u8) -> Result<(Event, &[u8]), &[u8]>
 }
 
 /// Reads an event, as `c4 48`, `f sharp 4 96` or `silence 60`.
-pub fn read_event(line: &[u8]) -> Result<(Event, &[u8]), &[u8]>
+pub fn read_event(line: &[u8]) -> Read<Event>
     ensures { event_read (outcome result) ≡ event line.now }
 {
     let (beginning, rest) = read_beginning(line)?;
@@ -142,7 +142,7 @@ pub fn read_event(line: &[u8]) -> Result<(Event, &[u8]), &[u8]>
 
 /// Reads which call a line is, by its first word.
 #[tactic(auto, unfolding(crate::specs::Lines::verb))]
-fn read_verb(line: &[u8]) -> Result<(Verb, &[u8]), &[u8]>
+fn read_verb(line: &[u8]) -> Read<Verb>
     ensures { outcome result ≡ verb line.now }
 {
     read_one_of(
@@ -159,14 +159,14 @@ fn read_verb(line: &[u8]) -> Result<(Verb, &[u8]), &[u8]>
 }
 
 /// Reads a field of a call.
-fn read_field(line: &[u8]) -> Result<(u32, &[u8]), &[u8]>
+fn read_field(line: &[u8]) -> Read<u32>
     ensures { outcome result ≡ field line.now }
 {
     read_spaced(line, u32::MAX)
 }
 
 /// Reads two fields: a voice and an index, or from where to where.
-fn read_pair(line: &[u8]) -> Result<((u32, u32), &[u8]), &[u8]>
+fn read_pair(line: &[u8]) -> Read<(u32, u32)>
     ensures { outcome result ≡ pair_on line.now }
 {
     let (first, rest) = read_field(line)?;
@@ -175,17 +175,17 @@ fn read_pair(line: &[u8]) -> Result<((u32, u32), &[u8]), &[u8]>
 }
 
 /// Reads a voice, an index and an event.
-fn read_edit(line: &[u8]) -> Result<((u32, u32, Event), &[u8]), &[u8]>
+fn read_edit(line: &[u8]) -> Read<(u32, u32, Event)>
     ensures { edit_read (outcome result) ≡ edit_on line.now }
 {
     let ((voice, index), rest) = read_pair(line)?;
-    let (_, rest) = read_word(rest, b" ")?;
+    let rest = read_word(rest, b" ")?;
     let (event, rest) = read_event(rest)?;
     Ok(((voice, index, event), rest))
 }
 
 /// Reads a voice, a bar and how many bars.
-fn read_bars(line: &[u8]) -> Result<((u32, u32, u32), &[u8]), &[u8]>
+fn read_bars(line: &[u8]) -> Read<(u32, u32, u32)>
     ensures { outcome result ≡ bars_on line.now }
 {
     let ((voice, bar), rest) = read_pair(line)?;
@@ -194,7 +194,7 @@ fn read_bars(line: &[u8]) -> Result<((u32, u32, u32), &[u8]), &[u8]>
 }
 
 /// Reads a call behind its first word.
-fn read_fields(line: &[u8], verb: Verb) -> Result<(Call, &[u8]), &[u8]>
+fn read_fields(line: &[u8], verb: Verb) -> Read<Call>
     ensures { call_read (outcome result) ≡ call_on verb line.now }
 {
     match verb {
@@ -233,7 +233,7 @@ fn read_fields(line: &[u8], verb: Verb) -> Result<(Call, &[u8]), &[u8]>
 }
 
 /// What was read of a line, if that is all of it.
-fn all_of<T: Drop>(line: &[u8], read: Result<(T, &[u8]), &[u8]>) -> Result<T, Unfit>
+fn all_of<T: Drop>(line: &[u8], read: Read<T>) -> Result<T, Unfit>
     ensures { said (λ x. x) result ≡ whole line.now (outcome read.entry) }
 {
     match read {
@@ -245,7 +245,7 @@ fn all_of<T: Drop>(line: &[u8], read: Result<(T, &[u8]), &[u8]>) -> Result<T, Un
 }
 
 /// The call that the words at the front of a line say, and what is behind it.
-fn read_words(line: &[u8]) -> Result<(Call, &[u8]), &[u8]>
+fn read_words(line: &[u8]) -> Read<Call>
     ensures { call_read (outcome result) ≡ call_words line.now }
 {
     let (verb, rest) = read_verb(line)?;
@@ -267,10 +267,10 @@ pub fn read_event_line(line: &[u8]) -> Result<Event, Unfit>
 }
 
 /// The number behind a name at the front of a line, and what is behind it.
-fn read_named<'a>(line: &'a [u8], name: &str) -> Result<(u32, &'a [u8]), &'a [u8]>
+fn read_named<'a>(line: &'a [u8], name: &str) -> Read<'a, u32>
     ensures { outcome result ≡ named name.now line.now }
 {
-    let (_, rest) = read_word(line, name.as_bytes())?;
+    let rest = read_word(line, name.as_bytes())?;
     read_field(rest)
 }
 

@@ -23,6 +23,11 @@ abbrev pub outcome : {A : Type 0} → Result (A × Bor (List ℕ)) (Bor (List �
 outcome (Ok v) = got v.0 v.1.now
 outcome (Err e) = stuck e.now
 
+-- the same of a word, which has no value
+abbrev pub word_outcome : Result (Bor (List ℕ)) (Bor (List ℕ)) → Read (Unit {0})
+word_outcome (Ok v) = got tt v.now
+word_outcome (Err e) = stuck e.now
+
 -- one after the other
 abbrev pub then : {A B : Type 0} → Read A → (A → List ℕ → Read B) → Read B
 then (got a xs) f = f a xs
