@@ -25,7 +25,7 @@ fn write_row(out: &mut [u8], row: &[u8]) -> usize
 }
 
 /// Writes the number of a call, or the kind of an answer, and numbers in four bytes each.
-// The kind is a byte, said once for each kind in `write_call` and `write_answer`: it is what stands on the wire.
+// The kind is a byte, as it stands on the wire: `calls` and `answers` have a name for each, by which it is written and read.
 fn write_fields(out: &mut [u8], kind: u8, fields: &[u32]) -> usize
     requires { 4 * length fields.now + 1 ≤ length out.old }
     ensures wrote { out.new ≡ (kind ∷ each four fields.now) ++ drop result out.old }
