@@ -31,12 +31,11 @@ fn write_fields(out: &mut [u8], kind: u8, fields: &[u32]) -> usize
     ensures wrote { out.new ≡ (kind ∷ each four fields.now) ++ drop result out.old }
     ensures many { result ≡ 4 * length fields.now + 1 }
 {
-    out[0] = kind;
-    // by its index: of a zip with `chunks_exact_mut` the loop's invariant knows the chunks that are left and not `out` (tried)
-    for (i, field) in fields.iter().enumerate() {
-        out[4 * i + 1..4 * i + 5].copy_from_slice(&field.to_le_bytes());
+    let mut at = write_row(out, &[kind]);
+    for field in fields {
+        at += write_row(&mut out[at..], &field.to_le_bytes());
     }
-    4 * fields.len() + 1
+    at
 }
 
 /// What was written of a call is read back as that call.
