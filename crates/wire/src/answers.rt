@@ -20,6 +20,9 @@ const SOUNDS: u8 = 3;
 
 const NUMBER: u8 = 4;
 
+/// How long an answer's head is, behind which its symbols or sounds stand: its kind, and how many they are.
+pub const ITEMS_AT: usize = 5;
+
 /// Writes what is said first in an answer, and returns how many bytes that is; symbols or sounds may stand behind already.
 #[tactic(auto, unfolding(crate::specs::Bytes::each))]
 pub fn write_answer(out: &mut [u8], answer: Answer) -> usize

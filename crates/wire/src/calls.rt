@@ -25,10 +25,13 @@ const NOTE: u8 = 0;
 
 const SILENCE: u8 = 1;
 
+/// How many bytes the longest call takes: its kind, two fields and an event.
+pub const LONGEST_CALL: usize = 14;
+
 /// Writes a call, and returns how many bytes that is.
 #[tactic(auto, unfolding(crate::specs::Bytes::each))]
 pub fn write_call(out: &mut [u8], call: Call) -> usize
-    requires { 14 ≤ length out.old }
+    requires { LONGEST_CALL ≤ length out.old }
     ensures wrote { out.new ≡ call_bytes (call_meant call) ++ drop result out.old }
     ensures many { result ≡ length (call_bytes (call_meant call)) }
 {
@@ -53,9 +56,9 @@ pub fn write_call(out: &mut [u8], call: Call) -> usize
 /// Writes a call's number, two fields and an event.
 #[tactic(auto, unfolding(crate::specs::Bytes::each))]
 fn write_placed(out: &mut [u8], number: u8, voice: u32, index: u32, event: Event) -> usize
-    requires { 14 ≤ length out.old }
+    requires { LONGEST_CALL ≤ length out.old }
     ensures wrote { out.new ≡ (number ∷ (four voice ++ (four index ++ event_bytes (event_meant event)))) ++ drop result out.old }
-    ensures many { result ≡ 14 }
+    ensures many { result ≡ LONGEST_CALL }
 {
     let at = write_fields(out, number, &[voice, index]);
     at + write_event(&mut out[at..], event)

@@ -9,8 +9,8 @@ mod answers;
 mod calls;
 mod items;
 
-pub use answers::{read_answer, write_answer, write_refused};
-pub use calls::{read_call, write_call};
+pub use answers::{ITEMS_AT, read_answer, write_answer, write_refused};
+pub use calls::{LONGEST_CALL, read_call, write_call};
 pub use items::Item;
 
 /// Writes a row over the first bytes, and returns how many that is.
