@@ -10,7 +10,7 @@ use score::{Answer, Sound, Symbol};
 use spelling::{spell_refusal, spell_sounds, spell_symbols};
 use std::alloc::{AllocError, Global};
 use std::fmt;
-use wire::{Item, read_answer};
+use wire::{ITEMS_AT, Item, read_answer};
 
 /// What an answer may be a row of.
 trait Spelled: Item {
@@ -64,15 +64,15 @@ pub fn spell_answer(heap: Global, bytes: &[u8], out: &mut String) -> anyhow::Res
         Answer::Done => write!(out, "done")?,
         // not a `Refusal`: bytes may have any number
         Answer::Refused { number, place } => spell_refusal(number, place as usize, out)?,
-        Answer::Symbols { count } => spell_items_in::<Symbol>(heap, &bytes[5..], count, out)?,
-        Answer::Sounds { count } => spell_items_in::<Sound>(heap, &bytes[5..], count, out)?,
+        Answer::Symbols { count } => spell_items::<Symbol>(heap, &bytes[ITEMS_AT..], count, out)?,
+        Answer::Sounds { count } => spell_items::<Sound>(heap, &bytes[ITEMS_AT..], count, out)?,
         Answer::Number { number } => write!(out, "{number}")?,
     }
     Ok(())
 }
 
 /// Writes a row of so many, from their bytes.
-fn spell_items_in<T: Spelled>(
+fn spell_items<T: Spelled>(
     heap: Global,
     bytes: &[u8],
     count: u32,

@@ -1,9 +1,15 @@
 -- The bars of what is printed, as parts of its bytes. Assumes nothing.
-use Rattle.std.proofs.Common.{◌≡◌, ℕ, zero, suc, ◌+◌, ◌-◌, ◌<◌, ◌≤◌, true, false, eqb, List, [], ◌∷◌, ◌++◌, length, get_or, take, drop, sym, refl, ap, ◌∙◌, ap₂, arith, length-append}
+use Rattle.std.proofs.Common.{◌≡◌, ℕ, zero, suc, ◌+◌, ◌-◌, ◌<◌, ◌≤◌, Bool, true, false, Some, None, Option, eqb, List, [], ◌∷◌, ◌++◌, length, get_or, take, drop, sym, refl, ap, ◌∙◌, ap₂, arith, length-append}
 use Rattle.std.proofs.lemmas.List.{drop_at, take_rest}
+use Rattle.std.specs.Option.{option_map, option_eq}
+use Rattle.score.specs.contracts.SymbolPartialEq.TheImpl.{eq-value}
+use Rattle.score.specs.declared.Symbol.{Symbol as Said}
+use Rattle.score.specs.declared.Symbol.TheVariants.{BarLine, Head, Rest}
+use Rattle.score.specs.Meaning.{symbol_meant}
 use Rattle.score.specs.Music.{pick}
 use Rattle.score.specs.Print.{Symbol, bar, head, rest, from_bar, so_many}
 use Rattle.wire.specs.Bytes.{symbol_bytes, symbols_bytes, each}
+use Rattle.wire.specs.Reading.{symbol_by, symbol_of}
 use Rattle.engraving.specs.Shown.{bars_take}
 
 -- one symbol more, none, and no bar
@@ -23,6 +29,37 @@ bars_on bs [] ys n m e l h w = absurd (omega arith)
 bars_on bs (k ∷ xs) ys n m e l h w =
     ap (bars_take n) e ∙ bars_more n ((k ∷ xs) ++ ys) h (omega (arith, length-append (k ∷ xs) ys))
     ∙ ap₂ (λ (i : ℕ) (cs : List ℕ). 5 + bars_take i cs) (sym w) (drop_at (k ∷ xs) ys 5 l)
+
+-- five bytes are read as a bar line if the first says so
+abbrev is_bar : Option Symbol → Bool
+is_bar (Some bar) = true
+is_bar (Some (head p s v t)) = false
+is_bar (Some (rest v)) = false
+is_bar None = false
+
+said_bar : (x : Option Said) → option_eq eq-value.it x (Some BarLine) ≡ is_bar (option_map symbol_meant x)
+said_bar None = refl
+said_bar (Some BarLine) = refl
+said_bar (Some (Head p s v t)) = refl
+said_bar (Some (Rest v)) = refl
+
+bar_by : (k p s v : ℕ) → is_bar (symbol_by k p s v) ≡ eqb k 0
+bar_by k p s v = go (eqb k 0) (eqb k 1) (eqb k 2) (eqb k 3)
+  where
+    go : (a b c d : Bool) → is_bar (pick a (Some bar) (pick b (Some (head p s v false)) (pick c (Some (head p s v true)) (pick d (Some (rest v)) None)))) ≡ a
+    go true b c d = refl
+    go false true c d = refl
+    go false false true d = refl
+    go false false false true = refl
+    go false false false false = refl
+
+pub bar_read : (bs : List ℕ) (x : Option Said) → length bs ≡ 5 → option_map symbol_meant x ≡ symbol_of bs → option_eq eq-value.it x (Some BarLine) ≡ eqb (get_or bs 0 0) 0
+bar_read [] x l e = absurd (omega arith)
+bar_read (k ∷ []) x l e = absurd (omega arith)
+bar_read (k ∷ (p ∷ [])) x l e = absurd (omega arith)
+bar_read (k ∷ (p ∷ (s ∷ []))) x l e = absurd (omega arith)
+bar_read (k ∷ (p ∷ (s ∷ (i ∷ [])))) x l e = absurd (omega arith)
+bar_read (k ∷ (p ∷ (s ∷ (i ∷ (j ∷ bs))))) x l e = said_bar x ∙ ap is_bar e ∙ bar_by k p s _
 
 pub bars_end : (n : ℕ) (bs : List ℕ) → length bs < 5 → bars_take n bs ≡ 0
 unfolding bars_take

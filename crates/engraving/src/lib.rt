@@ -23,9 +23,6 @@ pub mod voice;
 
 use voice::Voice;
 
-/// The first byte of a bar line.
-const BAR_LINE: u8 = 0;
-
 /// One symbol of an event: a rest if it is a silence, else a head, with the sign that it needs.
 fn symbol_of(row: Row, sign: Option<u32>, value: u32, tied: bool) -> Symbol
     requires place { row.place ≤ places }
@@ -39,10 +36,7 @@ fn symbol_of(row: Row, sign: Option<u32>, value: u32, tied: bool) -> Symbol
         };
     }
     // on paper, where a symbol is numbers, no sign is 0
-    let sign = match sign {
-        None => 0,
-        Some(alteration) => alteration as u8 + 1,
-    };
+    let sign = sign.map_or(0, |alteration| alteration as u8 + 1);
     Symbol::Head {
         place: row.place as u8,
         sign,
@@ -53,7 +47,7 @@ fn symbol_of(row: Row, sign: Option<u32>, value: u32, tied: bool) -> Symbol
 
 impl Voice<'_> {
     /// Prints at least one bar. At each place there holds what `holds` says: at first the key, and behind each bar line again.
-    // `from` and `count` are what `shown` takes: a struct of the two would be taken apart in each call (no plainer).
+    // `from` and `count` are no struct of their own: it would be made only to be taken apart here, and two numbers are plain enough as they are.
     fn print_bars(self, from: u32, count: u32, holds: &mut Holds, out: &mut [u8]) -> usize
         requires key { holds.old ≡ key_row self.layout.key }
         requires some { 0 < count }
@@ -140,8 +134,7 @@ fn bytes_of_bars(page: &[u8], count: u32) -> usize
         if more == 0 {
             return Symbol::SIZE * passed;
         }
-        // by its first byte alone, as it is written: nothing else of a symbol is looked at here
-        if symbol[0] == BAR_LINE {
+        if Symbol::read(symbol) == Some(Symbol::BarLine) {
             more -= 1;
         }
     }

@@ -56,7 +56,8 @@ pub struct Sound {
 }
 
 /// What is done with a score, and what is asked of it.
-// A voice, an index and an event are no struct of their own: each writer and reader would take it apart again (no plainer).
+// A voice, an index and an event are no struct of their own: who reads a call would gain a little by it, but who writes one (`wire::write_placed`) and who does one
+// (`StoredMut::put`, `change`) take the three one by one, and so do the definitions (`put v i e` in `specs/Calls.antt`): on the whole no plainer.
 #[derive(Clone, Copy, PartialEq, Eq, Debug)]
 pub enum Call {
     /// An event comes into a voice before its event of that index, or last.

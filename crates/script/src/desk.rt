@@ -18,7 +18,7 @@ use score::{Call, Opening, Refusal};
 use session::{Sizes, call, open};
 use std::alloc::Global;
 use text::read_call;
-use wire::write_call;
+use wire::{LONGEST_CALL, write_call};
 
 /// A score in words, the bytes in which it is answered, and the heap that answers are read into.
 #[derive(Drop)]
@@ -49,7 +49,7 @@ impl Desk {
         ensures said { OnOk result (string_bytes out.new ≡ string_bytes out.old ++ spelled_answer (line_answer_in self.old.words.items (Ok (call_meant asked)))) }
         ensures left { score_words self.new.words.items ≡ words_after self.old.words.items (Ok (call_meant asked)) }
     {
-        let mut row = [0; 14];
+        let mut row = [0; LONGEST_CALL];
         let length = write_call(&mut row, asked);
         let answered = call(&mut self.words, &mut self.bytes, &row[..length]);
         spell_answer(self.heap, &self.bytes[..answered], out)

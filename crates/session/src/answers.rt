@@ -12,7 +12,7 @@ use engraving::voice::Voice;
 use score::{Answer, Call, MOST_BARS, Refusal, Sound, Symbol, WIDEST_SPAN};
 use sounds::heard_in;
 use voices::{Span, Stored, StoredMut};
-use wire::{Item, write_answer, write_refused};
+use wire::{ITEMS_AT, Item, write_answer, write_refused};
 
 /// Writes what is told to a call, or why it is turned away.
 fn write_told(bytes: &mut [u8], told: Result<Answer, Refusal>) -> usize
@@ -44,7 +44,7 @@ fn print(score: Stored<'_>, span: Span, bar: u32, count: u32, out: &mut [u8]) ->
 }
 
 /// Shows bars of a voice.
-// In `show` and `hear` each check hands on its value or returns the refusal, and the answer goes behind the first five bytes (rules of the project). Score and
+// In `show` and `hear` each check hands on its value or returns the refusal, and symbols or sounds go behind the answer's head (rules of the project). Score and
 // bytes are no struct: it would hold a `&mut`, and each contract would say besides that it lends the same bytes still (no plainer).
 fn show(score: Stored<'_>, bytes: &mut [u8], voice: u32, bar: u32, count: u32) -> usize
     requires { bytes_taken score.words.now ≤ length bytes.old }
@@ -56,7 +56,7 @@ fn show(score: Stored<'_>, bytes: &mut [u8], voice: u32, bar: u32, count: u32) -
     let Some(span) = score.find_voice(voice) else {
         return write_refused(bytes, Refusal::NoVoice(voice));
     };
-    let long = print(score, span, bar, count, &mut bytes[5..]);
+    let long = print(score, span, bar, count, &mut bytes[ITEMS_AT..]);
     let count = (long / Symbol::SIZE) as u32;
     write_answer(bytes, Answer::Symbols { count }) + long
 }
@@ -69,7 +69,7 @@ fn hear(score: Stored<'_>, bytes: &mut [u8], from: u32, to: u32) -> usize
     let Some(to) = (to.saturating_sub(from) <= WIDEST_SPAN).then_some(to) else {
         return write_refused(bytes, Refusal::OutOfRange);
     };
-    let notes = heard_in(score, from, to, &mut bytes[5..]);
+    let notes = heard_in(score, from, to, &mut bytes[ITEMS_AT..]);
     let count = notes as u32;
     write_answer(bytes, Answer::Sounds { count }) + Sound::SIZE * notes
 }

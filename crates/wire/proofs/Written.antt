@@ -27,9 +27,3 @@ put_before out front ws last a n h e =
     ap (λ r. front ++ drop a r) (put_rest out ws last a n e)
     ∙ ap (λ r. front ++ r) (drop_at (take a out) (ws ++ drop (a + n) out) a (simp length-take (omega arith)))
     ∙ sym (append_assoc front ws (drop (a + n) out))
-
--- and where it is a part of so many that is written, with as many others
-pub put_part :
-    {A : Type 0} (out was front ws : List A) (a k : ℕ) → out ≡ front ++ drop a was → length front ≡ a → put_mid a k out ws ≡ (front ++ ws) ++ drop (a + k) was
-put_part out was front ws a k o p =
-    rw (o, drop_at front (drop a was) a p, take_at front (drop a was) a p, drop-drop k a was, append_assoc) refl

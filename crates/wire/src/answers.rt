@@ -9,6 +9,20 @@ ghost use Rattle.wire.specs.Reading.{number_of, refusal_of, said_of};
 use super::{write_fields, write_row};
 use score::{Answer, Refusal};
 
+// The first byte of an answer says its kind:
+const DONE: u8 = 0;
+
+const REFUSED: u8 = 1;
+
+const SYMBOLS: u8 = 2;
+
+const SOUNDS: u8 = 3;
+
+const NUMBER: u8 = 4;
+
+/// How long an answer's head is, behind which its symbols or sounds stand: its kind, and how many they are.
+pub const ITEMS_AT: usize = 5;
+
 /// Writes what is said first in an answer, and returns how many bytes that is; symbols or sounds may stand behind already.
 #[tactic(auto, unfolding(crate::specs::Bytes::each))]
 pub fn write_answer(out: &mut [u8], answer: Answer) -> usize
@@ -17,14 +31,14 @@ pub fn write_answer(out: &mut [u8], answer: Answer) -> usize
     ensures many { result ≡ length (said_bytes answer) }
 {
     match answer {
-        Answer::Done => write_fields(out, 0, &[]),
+        Answer::Done => write_fields(out, DONE, &[]),
         Answer::Refused { number, place } => {
             let [a, b, c, d] = place.to_le_bytes();
-            write_row(out, &[1, number, a, b, c, d])
+            write_row(out, &[REFUSED, number, a, b, c, d])
         }
-        Answer::Symbols { count } => write_fields(out, 2, &[count]),
-        Answer::Sounds { count } => write_fields(out, 3, &[count]),
-        Answer::Number { number } => write_fields(out, 4, &[number]),
+        Answer::Symbols { count } => write_fields(out, SYMBOLS, &[count]),
+        Answer::Sounds { count } => write_fields(out, SOUNDS, &[count]),
+        Answer::Number { number } => write_fields(out, NUMBER, &[number]),
     }
 }
 
@@ -46,11 +60,11 @@ pub fn read_answer(bytes: &[u8]) -> Option<Answer>
     };
     // An enum of kinds of answer would need this match, from a byte, and another to what is read by it.
     match *kind {
-        0 => Some(Answer::Done),
-        1 => read_refusal(rest),
-        2 => read_number(rest).map(|count| Answer::Symbols { count }),
-        3 => read_number(rest).map(|count| Answer::Sounds { count }),
-        4 => read_number(rest).map(|number| Answer::Number { number }),
+        DONE => Some(Answer::Done),
+        REFUSED => read_refusal(rest),
+        SYMBOLS => read_number(rest).map(|count| Answer::Symbols { count }),
+        SOUNDS => read_number(rest).map(|count| Answer::Sounds { count }),
+        NUMBER => read_number(rest).map(|number| Answer::Number { number }),
         _ => None,
     }
 }

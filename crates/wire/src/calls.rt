@@ -7,10 +7,31 @@ ghost use Rattle.wire.specs.ReadingCalls.{read_as, read_call, fields, fields_and
 use super::{write_fields, write_row};
 use score::{Call, Event, Refusal};
 
+// The first byte of a call says its kind:
+const PUT: u8 = 0;
+
+const CUT: u8 = 1;
+
+const CHANGE: u8 = 2;
+
+const SHOW: u8 = 3;
+
+const HEARD_IN: u8 = 4;
+
+const HOW_LONG: u8 = 5;
+
+// The first byte of an event says its kind:
+const NOTE: u8 = 0;
+
+const SILENCE: u8 = 1;
+
+/// How many bytes the longest call takes: its kind, two fields and an event.
+pub const LONGEST_CALL: usize = 14;
+
 /// Writes a call, and returns how many bytes that is.
 #[tactic(auto, unfolding(crate::specs::Bytes::each))]
 pub fn write_call(out: &mut [u8], call: Call) -> usize
-    requires { 14 ≤ length out.old }
+    requires { LONGEST_CALL ≤ length out.old }
     ensures wrote { out.new ≡ call_bytes (call_meant call) ++ drop result out.old }
     ensures many { result ≡ length (call_bytes (call_meant call)) }
 {
@@ -19,25 +40,25 @@ pub fn write_call(out: &mut [u8], call: Call) -> usize
             voice,
             index,
             event,
-        } => write_placed(out, 0, voice, index, event),
-        Call::Cut { voice, index } => write_fields(out, 1, &[voice, index]),
+        } => write_placed(out, PUT, voice, index, event),
+        Call::Cut { voice, index } => write_fields(out, CUT, &[voice, index]),
         Call::Change {
             voice,
             index,
             event,
-        } => write_placed(out, 2, voice, index, event),
-        Call::Show { voice, bar, count } => write_fields(out, 3, &[voice, bar, count]),
-        Call::HeardIn { from, to } => write_fields(out, 4, &[from, to]),
-        Call::HowLong { voice } => write_fields(out, 5, &[voice]),
+        } => write_placed(out, CHANGE, voice, index, event),
+        Call::Show { voice, bar, count } => write_fields(out, SHOW, &[voice, bar, count]),
+        Call::HeardIn { from, to } => write_fields(out, HEARD_IN, &[from, to]),
+        Call::HowLong { voice } => write_fields(out, HOW_LONG, &[voice]),
     }
 }
 
 /// Writes a call's number, two fields and an event.
 #[tactic(auto, unfolding(crate::specs::Bytes::each))]
 fn write_placed(out: &mut [u8], number: u8, voice: u32, index: u32, event: Event) -> usize
-    requires { 14 ≤ length out.old }
+    requires { LONGEST_CALL ≤ length out.old }
     ensures wrote { out.new ≡ (number ∷ (four voice ++ (four index ++ event_bytes (event_meant event)))) ++ drop result out.old }
-    ensures many { result ≡ 14 }
+    ensures many { result ≡ LONGEST_CALL }
 {
     let at = write_fields(out, number, &[voice, index]);
     at + write_event(&mut out[at..], event)
@@ -56,11 +77,11 @@ fn write_event(out: &mut [u8], event: Event) -> usize
             length,
         } => {
             let [low, high] = length.to_le_bytes();
-            [0, place, alteration, low, high]
+            [NOTE, place, alteration, low, high]
         }
         Event::Silence { length } => {
             let [low, high] = length.to_le_bytes();
-            [1, 0, 0, low, high]
+            [SILENCE, 0, 0, low, high]
         }
     };
     write_row(out, &row)
@@ -76,29 +97,29 @@ pub fn read_call(bytes: &[u8]) -> Result<Call, Refusal>
     // An enum of kinds of call would need this match, from a byte, and another to what is read by it. Arrays are taken apart by `let`: what a closure makes
     // of an array's pattern has no value in the goal (tried).
     match *number {
-        0 => fields_and_event(fields).map(|(voice, index, event)| Call::Put {
+        PUT => fields_and_event(fields).map(|(voice, index, event)| Call::Put {
             voice,
             index,
             event,
         }),
-        1 => {
+        CUT => {
             let [voice, index] = read_fields::<2>(fields)?;
             Ok(Call::Cut { voice, index })
         }
-        2 => fields_and_event(fields).map(|(voice, index, event)| Call::Change {
+        CHANGE => fields_and_event(fields).map(|(voice, index, event)| Call::Change {
             voice,
             index,
             event,
         }),
-        3 => {
+        SHOW => {
             let [voice, bar, count] = read_fields::<3>(fields)?;
             Ok(Call::Show { voice, bar, count })
         }
-        4 => {
+        HEARD_IN => {
             let [from, to] = read_fields::<2>(fields)?;
             Ok(Call::HeardIn { from, to })
         }
-        5 => {
+        HOW_LONG => {
             let [voice] = read_fields::<1>(fields)?;
             Ok(Call::HowLong { voice })
         }
@@ -155,7 +176,7 @@ impl Unread<'_> {
         ensures read { read_as (λ x. (event_meant x, self.new.bytes.now)) result ≡ event_at self.old.place self.old.bytes.now }
         ensures next { OnOk result (self.new.place ≡ self.old.place + 5) }
     {
-        let [kind @ (0 | 1), fields @ ..] = self.bytes else {
+        let [kind @ (NOTE | SILENCE), fields @ ..] = self.bytes else {
             return Err(Refusal::Unreadable(self.place));
         };
         self.bytes = fields;
@@ -163,7 +184,7 @@ impl Unread<'_> {
         let [degree, alteration, low, high] = self.four()?;
         let length = u16::from_le_bytes([low, high]);
         // an enum of the two kinds would be no plainer: both are read alike up to here
-        Ok(if *kind == 0 {
+        Ok(if *kind == NOTE {
             Event::Note {
                 place: degree,
                 alteration,

@@ -46,6 +46,15 @@ pub trait Item: Copy {
     ghost back: { Back written of };
 }
 
+// The first byte of a symbol says its kind; a head that is tied to the next is a kind of its own:
+const BAR_LINE: u8 = 0;
+
+const HEAD: u8 = 1;
+
+const TIED_HEAD: u8 = 2;
+
+const REST: u8 = 3;
+
 impl Item for Symbol {
     ghost Meaning = { Print.Symbol };
 
@@ -63,7 +72,7 @@ impl Item for Symbol {
 
     fn write(self, out: &mut [u8]) -> usize {
         let row = match self {
-            Symbol::BarLine => [0, 0, 0, 0, 0],
+            Symbol::BarLine => [BAR_LINE, 0, 0, 0, 0],
             Symbol::Head {
                 place,
                 sign,
@@ -71,12 +80,12 @@ impl Item for Symbol {
                 tied,
             } => {
                 let [low, high] = value.to_le_bytes();
-                let kind = if tied { 2 } else { 1 };
+                let kind = if tied { TIED_HEAD } else { HEAD };
                 [kind, place, sign, low, high]
             }
             Symbol::Rest { value } => {
                 let [low, high] = value.to_le_bytes();
-                [3, 0, 0, low, high]
+                [REST, 0, 0, low, high]
             }
         };
         write_row(out, &row)
@@ -89,14 +98,14 @@ impl Item for Symbol {
         let value = u16::from_le_bytes([*low, *high]);
         // An enum of kinds would be no plainer: two of them are a head, which differs by its tie alone.
         match *kind {
-            0 => Some(Symbol::BarLine),
-            1 | 2 => Some(Symbol::Head {
+            BAR_LINE => Some(Symbol::BarLine),
+            HEAD | TIED_HEAD => Some(Symbol::Head {
                 place: *place,
                 sign: *sign,
                 value,
-                tied: *kind == 2,
+                tied: *kind == TIED_HEAD,
             }),
-            3 => Some(Symbol::Rest { value }),
+            REST => Some(Symbol::Rest { value }),
             _ => None,
         }
     }

@@ -9,8 +9,8 @@ mod answers;
 mod calls;
 mod items;
 
-pub use answers::{read_answer, write_answer, write_refused};
-pub use calls::{read_call, write_call};
+pub use answers::{ITEMS_AT, read_answer, write_answer, write_refused};
+pub use calls::{LONGEST_CALL, read_call, write_call};
 pub use items::Item;
 
 /// Writes a row over the first bytes, and returns how many that is.
@@ -25,18 +25,17 @@ fn write_row(out: &mut [u8], row: &[u8]) -> usize
 }
 
 /// Writes the number of a call, or the kind of an answer, and numbers in four bytes each.
-// The kind is a byte, said once for each kind in `write_call` and `write_answer`: it is what stands on the wire.
+// The kind is a byte, as it stands on the wire: `calls` and `answers` have a name for each, by which it is written and read.
 fn write_fields(out: &mut [u8], kind: u8, fields: &[u32]) -> usize
     requires { 4 * length fields.now + 1 ≤ length out.old }
     ensures wrote { out.new ≡ (kind ∷ each four fields.now) ++ drop result out.old }
     ensures many { result ≡ 4 * length fields.now + 1 }
 {
-    out[0] = kind;
-    // by its index: of a zip with `chunks_exact_mut` the loop's invariant knows the chunks that are left and not `out` (tried)
-    for (i, field) in fields.iter().enumerate() {
-        out[4 * i + 1..4 * i + 5].copy_from_slice(&field.to_le_bytes());
+    let mut at = write_row(out, &[kind]);
+    for field in fields {
+        at += write_row(&mut out[at..], &field.to_le_bytes());
     }
-    4 * fields.len() + 1
+    at
 }
 
 /// What was written of a call is read back as that call.

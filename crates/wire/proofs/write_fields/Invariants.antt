@@ -3,5 +3,9 @@ use Rattle.std.proofs.Common.{◌≡◌, ◌+◌, ◌*◌, ◌∷◌, ◌++◌, 
 use Rattle.wire.specs.Bytes.{four, each}
 use Rattle.wire.proofs.write_fields.Given as goal
 
-abbrev pub invariant-loop-i : goal.invariant-loop-i
-invariant-loop-i l = l.out ≡ (l.kind ∷ each four (take l.i l.fields)) ++ drop (4 * l.i + 1) l.fn.out
+abbrev pub invariant-loop-field : goal.invariant-loop-field
+invariant-loop-field l =
+    record {
+      wrote : l.out ≡ (l.kind ∷ each four (take l.field-index l.fields)) ++ drop l.at l.fn.out;
+      many : l.at ≡ 4 * l.field-index + 1;
+    }
