@@ -23,7 +23,7 @@ row_back f g w wide back (x ∷ xs) bs =
     ∙ ap (λ l. before (Some x) (row_of g w (length xs) l)) (drop_at (f x) rest w (wide x))
     ∙ ap (before (Some x)) (row_back f g w wide back xs bs)
 
-answer_back : (a : Answer) (bs : List ℕ) → answer_of (answer_bytes a ++ bs) ≡ Some a
+pub answer_back : (a : Answer) (bs : List ℕ) → answer_of (answer_bytes a ++ bs) ≡ Some a
 answer_back done bs = refl
 answer_back (refused n p) bs = ap (λ m. Some (refused n m)) (of_four_four p)
 answer_back (symbols xs) bs =
