@@ -1,6 +1,6 @@
 -- A call is written as bytes, and what a session answers to these bytes is what is answered to the call. Assumes nothing.
-use Rattle.std.proofs.Common.{◌≡◌, ℕ, ◌≤◌, List, [], ◌++◌, length, take, drop, Some, Ok, Result, sym, ap, ◌∙◌, arith}
-use Rattle.std.proofs.lemmas.List.{append-nil, length-take, take_at}
+use Rattle.std.proofs.Common.{◌≡◌, ℕ, List, [], ◌++◌, length, take, drop, Some, Ok, Result, sym, ap, ◌∙◌}
+use Rattle.std.proofs.lemmas.List.{append-nil, take_at}
 use Rattle.score.specs.Calls.{Call, Answer}
 use Rattle.score.specs.Promise.{Memory}
 use Rattle.wire.specs.Bytes.{call_bytes, answer_bytes}
@@ -21,12 +21,6 @@ module _ (w b row rest w' b' : List ℕ) (c : Call) (n r : ℕ) (wrote : row ≡
   answered : take r b' ≡ answer_bytes (line_answer_in w (Ok c))
   unfolding answer_by
   answered = a.answer ∙ ap (λ (q : Result Call Answer). answer_bytes (said_to (memory_in w b) q)) asked
-
-  -- its answer lies within the bytes, and is the line's
-  pub room : r ≤ length b'
-  room =
-      let e : length (take r b') ≡ r = ap length a.answer ∙ sym a.long in
-      omega (arith, length-take r b')
 
   pub told : answer_of (take r b') ≡ Some (line_answer_in w (Ok c))
   told = ap answer_of (answered ∙ sym (append-nil _)) ∙ (answers_back (line_answer_in w (Ok c))).0 []
