@@ -53,6 +53,7 @@ pub fn comes_to()
 
 /// A length laid over bar lines, from any tick of a bar on, comes to what it was: a bar line stands where a bar is full, and there only, and all
 /// else are values that can be drawn.
+#[tactic(auto, using(crate::proofs::Laid::lies_over_bars, crate::proofs::Laid::span_chunks))]
 pub fn lies_over_bars()
     ensures { LiesOverBars }
 {}
