@@ -40,6 +40,7 @@ fn write_fields(out: &mut [u8], kind: u8, fields: &[u32]) -> usize
 }
 
 /// What was written of a call is read back as that call.
+#[tactic(auto, using(crate::proofs::CallsBack::any_back, crate::proofs::CallsBack::call_back, crate::proofs::CallsBack::call_below))]
 pub fn calls_back()
     ensures { CallsBack }
 {}
