@@ -5,7 +5,7 @@ use Rattle.std.proofs.lemmas.Bool.{eqb-true, eqb-false, leb-true, leb-false, le-
 use Rattle.score.specs.Print.{all_values, pieces, Chunk, value, line, as_values, lesser, chunks, has_line}
 use Rattle.score.specs.Promise.{sum_of, is_value, all_are}
 use Rattle.score.proofs.Picks.{pick_true, pick_both}
-use Rattle.laws.specs.Laying.{span, LiesWell, LiesOverBars}
+use Rattle.laws.specs.Laying.{span, LiesWell}
 use Rattle.laws.proofs.Pieces.{value_good, pieces_sum, pieces_are, Begins, pieces_begin}
 
 -- how much of a length lies in a bar
@@ -138,9 +138,7 @@ lies_chunks (suc k) b o d cs f h b3 o3 d3 w =
     none : d ≡ 0 → (o + d) % b ≡ o
     none z = let e : o + d ≡ o = omega arith in ap (λ (n : ℕ). n % b) e ∙ mod-eq_of_lt h
 
-pub lies_over_bars : LiesOverBars
+pub lies_over_bars : (b o d : ℕ) → o < b → b % 3 ≡ 0 → o % 3 ≡ 0 → d % 3 ≡ 0 → LiesWell b o (chunks (suc d) b o d)
 unfolding LiesWell
-lies_over_bars b o d h b3 o3 d3 = (
-  subst (LiesWell b o) (append-nil (chunks (suc d) b o d)) (lies_chunks (suc d) b o d [] (omega arith) h b3 o3 d3 (next_below b (o + d) (omega arith))),
-  span_chunks (suc d) b o d (omega arith) h b3 o3 d3,
-)
+lies_over_bars b o d h b3 o3 d3 =
+    subst (LiesWell b o) (append-nil (chunks (suc d) b o d)) (lies_chunks (suc d) b o d [] (omega arith) h b3 o3 d3 (next_below b (o + d) (omega arith)))

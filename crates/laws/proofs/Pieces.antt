@@ -6,7 +6,6 @@ use Rattle.score.specs.Print.{all_values, largest, pieces}
 use Rattle.score.specs.Promise.{sum_of, is_value, all_are}
 use Rattle.score.proofs.Picks.{pick_true, pick_false, pick_both, eqb_same}
 use Rattle.score.proofs.Tables.{each_of, each_of_at}
-use Rattle.laws.specs.Laying.{ComesTo}
 
 -- every value is some ticks long, at most a whole note, and a multiple of 3
 good_value : ℕ → Bool
@@ -88,9 +87,6 @@ pieces_are (suc k) n =
     pick_both (λ (vs : List ℕ). all_are vs ≡ true) (eqb (largest n all_values) 0) [] (largest n all_values ∷ pieces k (n - largest n all_values))
     (λ _. refl)
     (λ e. and_from _ _ (value_some n (eqb-false _ 0 e)).3 (pieces_are k (n - largest n all_values)))
-
-pub comes_to : ComesTo
-comes_to n m = (pieces_sum n n (omega arith) m, pieces_are n n)
 
 -- the bound on how many does not matter where it is large enough
 pub pieces_fuel : (j k n : ℕ) → n ≤ j → n ≤ k → pieces j n ≡ pieces k n

@@ -300,6 +300,7 @@ pub fn read(bytes: &[u8], signature: u32, heard: &mut [Heard]) -> Result<usize, 
 }
 
 /// A note for each five bytes is always room enough for what `read` hears.
+#[tactic(auto, using(crate::proofs::FewNotes::few_notes))]
 pub fn notes_are_few()
     ensures { FewNotes }
 {}

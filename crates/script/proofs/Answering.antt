@@ -1,13 +1,13 @@
 -- A call is written as bytes, and what a session answers to these bytes is what is answered to the call. Assumes nothing.
-use Rattle.std.proofs.Common.{◌≡◌, ℕ, ◌≤◌, List, [], ◌++◌, length, take, drop, Some, Ok, Result, sym, ap, ◌∙◌, arith}
-use Rattle.std.proofs.lemmas.List.{append-nil, length-take, take_at}
+use Rattle.std.proofs.Common.{◌≡◌, ℕ, List, [], ◌++◌, length, take, drop, Some, Ok, Result, sym, ap, ◌∙◌}
+use Rattle.std.proofs.lemmas.List.{append-nil, take_at}
 use Rattle.score.specs.Calls.{Call, Answer}
 use Rattle.score.specs.Promise.{Memory}
 use Rattle.wire.specs.Bytes.{call_bytes, answer_bytes}
 use Rattle.wire.specs.Reading.{answer_of}
 use Rattle.wire.specs.ReadingCalls.{read_call}
-use Rattle.wire.proofs.Back.{answers_back}
-use Rattle.wire.proofs.CallsBack.{calls_back}
+use Rattle.wire.proofs.Back.{answer_back}
+use Rattle.wire.proofs.CallsBack.{call_back}
 use Rattle.memory.specs.Words.{answer_by, words_by}
 use Rattle.session.specs.Session.{memory_in, said_to, left_in, Answered}
 use Rattle.script.specs.Desk.{score_words, line_answer_in, words_after}
@@ -16,20 +16,14 @@ module _ (w b row rest w' b' : List ℕ) (c : Call) (n r : ℕ) (wrote : row ≡
   -- the session reads the call
   asked : read_call (take n row) ≡ Ok c
   asked =
-      ap (λ (x : List ℕ). read_call (take n x)) wrote ∙ ap read_call (take_at (call_bytes c) rest n (sym many)) ∙ (calls_back c).0
+      ap (λ (x : List ℕ). read_call (take n x)) wrote ∙ ap read_call (take_at (call_bytes c) rest n (sym many)) ∙ call_back c
 
   answered : take r b' ≡ answer_bytes (line_answer_in w (Ok c))
   unfolding answer_by
   answered = a.answer ∙ ap (λ (q : Result Call Answer). answer_bytes (said_to (memory_in w b) q)) asked
 
-  -- its answer lies within the bytes, and is the line's
-  pub room : r ≤ length b'
-  room =
-      let e : length (take r b') ≡ r = ap length a.answer ∙ sym a.long in
-      omega (arith, length-take r b')
-
   pub told : answer_of (take r b') ≡ Some (line_answer_in w (Ok c))
-  told = ap answer_of (answered ∙ sym (append-nil _)) ∙ (answers_back (line_answer_in w (Ok c))).0 []
+  told = ap answer_of (answered ∙ sym (append-nil _)) ∙ answer_back (line_answer_in w (Ok c)) []
 
   pub left : score_words w' ≡ words_after w (Ok c)
   unfolding words_by

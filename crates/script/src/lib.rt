@@ -26,6 +26,7 @@ pub fn answer_script(heap: Global, text: &[u8]) -> anyhow::Result<String>
 }
 
 /// If all lines behind an opening are calls, what is printed are the answers to these calls.
+#[tactic(auto, using(crate::proofs::Promised::calls_answered))]
 pub fn calls_answered()
     ensures { CallsAnswered }
 {}

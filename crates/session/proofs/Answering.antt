@@ -12,16 +12,9 @@ use Rattle.session.proofs.Lent.{room, memory_front, untouched, ready}
 use Rattle.session.proofs.Openings.{room_stored}
 
 module _ (w b input : List ℕ) (rd : Ready w b) where
-  -- the words and bytes that are taken
-  W : List ℕ
-  W = take (words_taken w) w
-
+  -- the bytes that are taken
   B : List ℕ
   B = take (bytes_taken w) b
-
-  long_words : length W ≡ words_taken w
-  unfolding W
-  long_words = length-take-le (words_taken w) w rd.words_room
 
   long_bytes : length B ≡ bytes_taken w
   unfolding B

@@ -111,22 +111,26 @@ pub fn call(words: &mut [u32], bytes: &mut [u8], input: &[u8]) -> usize
 }
 
 /// The session is right: for every list of calls its answers are those of the score as the calls left it, printed and heard anew.
+#[tactic(auto, using(memory::proofs::Run::right))]
 pub fn right()
     ensures { SessionRight }
 {}
 
 /// A call that is turned away leaves the words as they were.
+#[tactic(auto, using(memory::proofs::Run::keeps))]
 pub fn refusal_keeps()
     ensures { SessionKeeps }
 {}
 
 /// The memory that is asked for at opening is enough for ever.
+#[tactic(auto, using(memory::proofs::Enough::enough))]
 pub fn enough_memory()
     ensures { SessionEnough }
 {}
 
 /// The whole way: after every list of calls, who reads the bars that are shown of a voice hears just what is told of that voice for those bars, every
 /// note at its time, as long as it is, at its tone. It is asked only that nothing is tied into the first of these bars nor into the bar behind the last.
+#[tactic(auto, using(crate::proofs::Pages::whole_way))]
 pub fn whole_way()
     ensures { WholeWay }
 {}

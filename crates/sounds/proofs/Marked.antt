@@ -64,9 +64,6 @@ module _ (ns ps xs ds : List ℕ) (first E : ℕ) (laid : Laid ns ps xs ds) (cur
   pub part_short : sum (part ds) < ticks_end
   part_short = subst (λ (n : ℕ). n < ticks_end) (total_sum Es ∙ ap sum lengths_are) (short_voice (score_in ns ps xs ds) k laid.short)
 
-  pub part_long : length (part ps) ≡ length (part ds)
-  part_long = sym (same_long ds laid.lengths_too)
-
   module _ (r : ℕ) (passes : r ≡ passed (grain * first) 0 (part ds)) where
     abbrev tick : ℕ
     tick = sum (take r (part ds))

@@ -92,9 +92,6 @@ unfolding dealt
 length_dealt [] es = refl
 length_dealt (n ∷ ns) es = ap suc (length_dealt ns (drop n es))
 
-take_none : {A : Type 0} (n : ℕ) (xs : List A) → n ≡ 0 → take n xs ≡ []
-take_none n xs e = ap (λ (k : ℕ). take k xs) e
-
 pub drop_take_sub : {A : Type 0} (i c : ℕ) (xs : List A) → drop i (take c xs) ≡ take (c - i) (drop i xs)
 drop_take_sub zero c xs = grind (arith, common_steps)
 drop_take_sub (suc i) zero xs = grind (arith, common_steps)

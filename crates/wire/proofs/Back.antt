@@ -5,9 +5,7 @@ use Rattle.std.specs.Option.{option_map}
 use Rattle.score.specs.Calls.{Answer, done, refused, symbols, sounds, number}
 use Rattle.wire.specs.Bytes.{symbol_bytes, sound_bytes, symbols_bytes, sounds_bytes, each, answer_bytes}
 use Rattle.wire.specs.Reading.{symbol_of, sound_of, before, row_of, answer_of}
-use Rattle.wire.specs.Faithful.{AnswersBack}
 pub use Rattle.wire.specs.Items.{length_symbol, symbols_back, sounds_back}
-use Rattle.wire.proofs.Fitting.{answer_below}
 use Rattle.wire.specs.Items.{of_four_four}
 
 -- so many that each come back, whatever stands behind
@@ -23,7 +21,7 @@ row_back f g w wide back (x ∷ xs) bs =
     ∙ ap (λ l. before (Some x) (row_of g w (length xs) l)) (drop_at (f x) rest w (wide x))
     ∙ ap (before (Some x)) (row_back f g w wide back xs bs)
 
-answer_back : (a : Answer) (bs : List ℕ) → answer_of (answer_bytes a ++ bs) ≡ Some a
+pub answer_back : (a : Answer) (bs : List ℕ) → answer_of (answer_bytes a ++ bs) ≡ Some a
 answer_back done bs = refl
 answer_back (refused n p) bs = ap (λ m. Some (refused n m)) (of_four_four p)
 answer_back (symbols xs) bs =
@@ -33,6 +31,3 @@ answer_back (sounds xs) bs =
     ap (λ n. option_map sounds (row_of sound_of 8 n (sounds_bytes xs ++ bs))) (of_four_four (length xs))
     ∙ ap (option_map sounds) (row_back sound_bytes sound_of 8 (λ x. refl) sounds_back xs bs)
 answer_back (number n) bs = ap (λ m. Some (number m)) (of_four_four n)
-
-pub answers_back : AnswersBack
-answers_back a = (answer_back a, answer_below a)

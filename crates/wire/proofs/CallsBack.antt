@@ -6,7 +6,7 @@ use Rattle.score.specs.Calls.{Call, put, cut, change, show, heard_in, how_long}
 use Rattle.score.specs.Promise.{all_below, field, readable_event, readable}
 use Rattle.wire.specs.Bytes.{four, event_bytes, call_bytes}
 use Rattle.wire.specs.ReadingCalls.{fields_at, read_call}
-use Rattle.wire.specs.Faithful.{with_any, CallsBack}
+use Rattle.wire.specs.Faithful.{with_any}
 use Rattle.wire.proofs.Numbers.{of_two_two, of_four_four}
 use Rattle.wire.proofs.Rows.{all_below_none, all_below_more, all_below-++, four_below, five_below}
 
@@ -61,5 +61,5 @@ call_below (show v b n) f =
 call_below (heard_in a b) f = let x = and_parts _ _ f in placed_below 4 a b [] (omega arith) x.0 x.1 (all_below_none 256)
 call_below (how_long v) f = all_below_more 256 5 _ (omega arith) (four_below v f)
 
-pub calls_back : CallsBack
-calls_back c = (ap read_call (sym (as_written c)) ∙ any_back c 0 0, any_back c, call_below c)
+pub call_back : (c : Call) → read_call (call_bytes c) ≡ Ok c
+call_back c = ap read_call (sym (as_written c)) ∙ any_back c 0 0

@@ -39,6 +39,7 @@ fn write_fields(out: &mut [u8], kind: u8, fields: &[u32]) -> usize
 }
 
 /// What was written of a call is read back as that call.
+#[tactic(auto, using(crate::proofs::CallsBack::any_back, crate::proofs::CallsBack::call_back, crate::proofs::CallsBack::call_below))]
 pub fn calls_back()
     ensures { CallsBack }
 {}
@@ -49,21 +50,25 @@ pub fn one_row()
 {}
 
 /// The place of a refusal is where bytes cease to be the beginning of a call.
+#[tactic(auto, using(crate::proofs::PlaceRight::place_right))]
 pub fn place_right()
     ensures { PlaceRight }
 {}
 
 /// What was written of a symbol is read back as that symbol.
+#[tactic(auto, using(crate::specs::Items::symbols_back))]
 pub fn symbols_back()
     ensures { SymbolsBack }
 {}
 
 /// What was written of a note as it is heard is read back as that note.
+#[tactic(auto, using(crate::specs::Items::sounds_back))]
 pub fn sounds_back()
     ensures { SoundsBack }
 {}
 
 /// What was written of an answer is read back as that answer, and is bytes if its numbers fit their fields.
+#[tactic(auto, using(crate::proofs::Back::answer_back, crate::proofs::Fitting::answer_below))]
 pub fn answers_back()
     ensures { AnswersBack }
 {}
