@@ -19,7 +19,7 @@ pub fn words_counted()
     ensures { WordsCounted }
 {}
 
-/// Where the events of a voice begin on paper is not reached by a change of another.
+/// What is kept of a voice is not reached by a change of another.
 pub fn others_unreached()
     ensures { OthersUnreached }
 {}
