@@ -1,2 +1,3 @@
 pub mod Each
 pub mod Found
+pub mod Onward

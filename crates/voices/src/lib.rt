@@ -11,8 +11,10 @@ ghost use Rattle.memory.specs.Words.{Holds};
 ghost use Rattle.rows.specs.Rows.{row_of};
 
 mod editing;
+mod keeping;
 mod moves;
 mod reading;
+mod regions;
 
 pub use editing::StoredMut;
 pub use reading::Stored;
