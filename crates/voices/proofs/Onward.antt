@@ -1,5 +1,5 @@
 -- One event after the other is given where it begins, as the code does it: what holds lies in a row of words. Assumes nothing.
-use Rattle.std.proofs.Common.{◌≡◌, ℕ, suc, ◌+◌, ◌-◌, ◌/◌, ◌%◌, ◌^◌, ◌<◌, ◌≤◌, Bool, true, false, leb, List, [], ◌++◌, length, get_or, take, drop, set, sym, refl, ap, ◌∙◌, subst, ap₂, mod-eq_of_lt, arith}
+use Rattle.std.proofs.Common.{◌≡◌, ℕ, suc, ◌+◌, ◌-◌, ◌/◌, ◌%◌, ◌^◌, ◌<◌, ◌≤◌, Bool, true, false, leb, List, [], ◌∷◌, ◌++◌, length, get_or, take, drop, set, sym, refl, ap, ◌∙◌, subst, ap₂, mod-eq_of_lt, arith}
 use native.Mathlib.Nat.{div-eq_of_lt}
 use borrow.Rule.Slice.PartMut.{put_mid}
 use Rattle.std.proofs.lemmas.List.{append-nil, drop_all, length-drop, get_or-take, take_rest}
@@ -19,6 +19,8 @@ use Rattle.marks.proofs.Bits.{length_marked}
 use Rattle.memory.specs.Moves.{rows_set}
 use Rattle.memory.specs.Store.{marks_asked, words_asked, no_marks, voices_in, limit_in, places_from, alterations_from, lengths_from, counts_from, bars_from, marks_from, score_of}
 use Rattle.memory.specs.Words.{kept_anew, Unkept, Deriving}
+use Rattle.voices.specs.declared.regions.Regions.{Regions}
+use Rattle.voices.specs.Regions.{regions_in}
 use Rattle.memory.proofs.Anew.{all_anew, end_within, at_within, marks_there, mark_there, bar_small, then_is, marks_still, next_derived, same_anew}
 use Rattle.memory.proofs.Scores.{voice_le}
 use Rattle.memory.proofs.Midway.{event_midway, words_midway, marks_midway}
@@ -36,6 +38,12 @@ header_word x w i lt e = sym (get_or-take counts_from x i 0 lt) ∙ (ap (λ xs. 
 either_below : (b : Bool) (x y n : ℕ) → x < n → y < n → pick b x y < n
 either_below true x y n l r = l
 either_below false x y n l r = r
+
+-- have the same regions
+pub same_regions : (regions : Regions) (w₀ w : List ℕ) → regions ≡ regions_in w₀ → take counts_from w ≡ take counts_from w₀ → regions ≡ regions_in w
+same_regions regions w₀ w e he =
+    let By : ℕ → ℕ → Regions = λ v n. regions_in (0 ∷ (0 ∷ (v ∷ (n ∷ [])))) in
+    e ∙ sym (ap₂ By (header_word w w₀ 2 (omega arith) he) (header_word w w₀ 3 (omega arith) he))
 
 module _ (w hs : List ℕ) (at bar tick : ℕ) (d : Deriving w at bar tick (held_in (get_or w 0 0) hs)) (mark : has (drop (marks_from w) w) at ≡ true) (row : length hs ≡ places) where
   abbrev p : ℕ

@@ -123,7 +123,7 @@ fn derive(words: &mut [u32], regions: Regions, first: usize, bar: u32, tick: u32
     let mut at = first;
     let mut bar = bar;
     let mut tick = tick;
-    while is_marked(&words[regions.marks..], at) {
+    'events: while is_marked(&words[regions.marks..], at) {
         tick += keep_onset(words, regions, &mut holds, at, bar, tick);
         if tick >= measure {
             (bar, tick) = over_line(bar, tick, measure);
