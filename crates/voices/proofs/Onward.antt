@@ -17,7 +17,7 @@ use Rattle.keys.proofs.Holding.{held_key, needed_is, holding_is}
 use Rattle.marks.specs.Marked.{has, marked}
 use Rattle.marks.proofs.Bits.{length_marked}
 use Rattle.memory.specs.Moves.{rows_set}
-use Rattle.memory.specs.Store.{marks_asked, words_asked, no_marks, voices_in, limit_in, places_from, alterations_from, lengths_from, counts_from, bars_from, marks_from, score_of}
+use Rattle.memory.specs.Store.{marks_asked, words_asked, no_marks, voices_in, limit_in, places_from, alterations_from, lengths_from, counts_from, bars_from, beats_from, marks_from, score_of}
 use Rattle.memory.specs.Words.{kept_anew, Unkept, Deriving}
 use Rattle.voices.specs.declared.regions.Regions.{Regions}
 use Rattle.voices.specs.Regions.{regions_in}
@@ -30,6 +30,17 @@ pub put_tail : (W last : List ℕ) (m : ℕ) → put_mid m (length W - m) W last
 put_tail W last m =
     let none : drop (length W - m) (drop m W) ≡ [] = drop_all (length W - m) (drop m W) (simp length-drop (omega arith)) in
     simp (none, append-nil)
+
+-- the regions, one by one
+module _ (regions : Regions) (w : List ℕ) (e : regions ≡ regions_in w) where
+  pub bars_is : get_or regions.onsets 0 0 ≡ bars_from w
+  bars_is = ap (λ (r : Regions). get_or r.onsets 0 0) e
+
+  pub beats_is : get_or regions.onsets 1 0 ≡ beats_from w
+  beats_is = ap (λ (r : Regions). get_or r.onsets 1 0) e
+
+  pub marks_is : regions.marks ≡ marks_from w
+  marks_is = ap (λ (r : Regions). r.marks) e
 
 -- words with the same header
 pub header_word : (x w : List ℕ) (i : ℕ) → i < counts_from → take counts_from x ≡ take counts_from w → get_or x i 0 ≡ get_or w i 0

@@ -6,12 +6,9 @@ use Rattle.memory.specs.Store.{marks_from}
 use Rattle.memory.specs.Words.{Deriving}
 use Rattle.voices.specs.declared.regions.Regions.{Regions}
 use Rattle.voices.specs.Regions.{regions_in}
-use Rattle.voices.proofs.Onward.{header_word, same_regions, lent_marks, own_key, marks_long, in_limit, no_mark, over_line, in_bar}
+use Rattle.voices.proofs.Onward.{marks_is, header_word, same_regions, lent_marks, own_key, marks_long, in_limit, no_mark, over_line, in_bar}
 use Rattle.voices.proofs.keeping.derive.Goals as goal
 use Rattle.voices.proofs.keeping.derive.Goals.{then-tick-measure, else-tick-measure}
-
-marks_is : (regions : Regions) (w : List ℕ) → regions ≡ regions_in w → regions.marks ≡ marks_from w
-marks_is regions w e = ap (λ (r : Regions). r.marks) e
 
 pub events-init : goal.events-init
 events-init c = (

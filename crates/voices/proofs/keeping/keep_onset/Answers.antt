@@ -13,7 +13,7 @@ use Rattle.rows.specs.declared.Row.{Row}
 use Rattle.voices.specs.declared.regions.Regions.{Regions}
 use Rattle.voices.specs.Regions.{regions_in}
 use Rattle.voices.specs.Rows.{row_in}
-use Rattle.voices.proofs.Onward.{put_tail, within, words_small, sign_small, onset_written, unmarked, marked_yet, Onward, onward, bar_low}
+use Rattle.voices.proofs.Onward.{marks_is, put_tail, within, words_small, sign_small, onset_written, unmarked, marked_yet, Onward, onward, bar_low}
 use Rattle.voices.proofs.keeping.keep_onset.Goals as goal
 use Rattle.voices.proofs.keeping.keep_onset.Goals.{After-write_onset}
 
@@ -29,9 +29,6 @@ module _ (row : Row) (w : List ℕ) (at : ℕ) (e : row ≡ row_in w at) where
 
   long_is : row.length ≡ get_or w (lengths_from w + at) 0
   long_is = ap (λ (r : Row). r.length) e
-
-marks_is : (regions : Regions) (w : List ℕ) → regions ≡ regions_in w → regions.marks ≡ marks_from w
-marks_is regions w e = ap (λ (r : Regions). r.marks) e
 
 pub sign_of-requires : goal.sign_of-requires
 sign_of-requires c = omega (arith, place_is _ c.args.words.now c.args.at c.row_at-row.ensures, (words_small _ _ _ _ _ c.requires.state c.requires.marked c.told-holds).0)
