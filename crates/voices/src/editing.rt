@@ -10,7 +10,7 @@ ghost use Rattle.voices.specs.Said.{said_done};
 use super::keeping::keep;
 use super::moves::{insert_at, remove_at};
 use super::regions::regions_of;
-use super::{COUNTS, LIMIT, Span, Stored, VOICES};
+use super::{COUNTS, LIMIT, Span, Stored};
 use rows::Row;
 use score::{Event, Refusal};
 
@@ -70,7 +70,7 @@ fn insert_event(words: &mut [u32], voice: usize, used: usize, at: usize, ticks: 
 {
     let regions = regions_of(words);
     let limit = words[LIMIT] as usize;
-    let ticks_at = COUNTS + words[VOICES] as usize + voice;
+    let ticks_at = Stored::of(words).ticks_at(voice);
     let count = words[COUNTS + voice];
     insert_row(words, regions.rows[0], limit, used, at, row);
     words[COUNTS + voice] = count + 1;
@@ -89,7 +89,7 @@ fn remove_event(words: &mut [u32], voice: usize, used: usize, at: usize, ticks: 
 {
     let regions = regions_of(words);
     let limit = words[LIMIT] as usize;
-    let ticks_at = COUNTS + words[VOICES] as usize + voice;
+    let ticks_at = Stored::of(words).ticks_at(voice);
     let count = words[COUNTS + voice];
     remove_row(words, regions.rows[0], limit, used, at);
     words[COUNTS + voice] = count - 1;
@@ -105,7 +105,7 @@ fn set_event(words: &mut [u32], voice: usize, at: usize, ticks: u32, row: Row)
     ensures { words.new ≡ with_other words.old voice at ticks row.place row.alteration row.length }
 {
     let [places, alterations, lengths] = regions_of(words).rows;
-    let ticks_at = COUNTS + words[VOICES] as usize + voice;
+    let ticks_at = Stored::of(words).ticks_at(voice);
     words[places + at] = row.place;
     words[alterations + at] = row.alteration;
     words[lengths + at] = row.length;
@@ -146,9 +146,10 @@ impl<'a> StoredMut<'a> {
         let Some(ticks) = score.find_ticks(voice as usize, 0, row.length) else {
             return Err(Refusal::Full);
         };
-        insert_event(self.words, voice as usize, used, at, ticks, row);
+        let words = &mut *self.words;
+        insert_event(words, voice as usize, used, at, ticks, row);
         let count = span.count + 1;
-        keep(self.words, Span { count, ..span }, index as usize, count);
+        keep(words, Span { count, ..span }, index as usize, count);
         Ok(())
     }
 
@@ -167,9 +168,10 @@ impl<'a> StoredMut<'a> {
         };
         let ticks = score.ticks_of(voice as usize) - score.row_at(at).length;
         let used = score.events_in();
-        remove_event(self.words, voice as usize, used, at, ticks);
+        let words = &mut *self.words;
+        remove_event(words, voice as usize, used, at, ticks);
         let count = span.count - 1;
-        keep(self.words, Span { count, ..span }, index as usize, count);
+        keep(words, Span { count, ..span }, index as usize, count);
         Ok(())
     }
 
@@ -189,8 +191,9 @@ impl<'a> StoredMut<'a> {
             return Err(Refusal::Full);
         };
         let end = score.end_of_change(span, index as usize, row.length == old.length);
-        set_event(self.words, voice as usize, at, ticks, row);
-        keep(self.words, span, index as usize, end);
+        let words = &mut *self.words;
+        set_event(words, voice as usize, at, ticks, row);
+        keep(words, span, index as usize, end);
         Ok(())
     }
 }

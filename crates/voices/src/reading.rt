@@ -4,7 +4,7 @@ ghost use Rattle.std.specs.Option.{option_map};
 ghost use Rattle.score.specs.Meaning.{event_meant};
 ghost use Rattle.score.specs.Music.{length_end, total};
 ghost use Rattle.score.specs.Calls.{all_events, ticks_end, how_long, voice as voice_of_score};
-ghost use Rattle.memory.specs.Store.{counts_from, voices_in, limit_in, places_from, alterations_from, lengths_from, bars_from, beats_from, signs_from, score_of};
+ghost use Rattle.memory.specs.Store.{counts_from, ticks_from, voices_in, limit_in, places_from, alterations_from, lengths_from, bars_from, beats_from, signs_from, score_of};
 ghost use Rattle.memory.specs.Words.{Holds, Spans, answer_at};
 ghost use Rattle.voices.specs.Said.{said_number, event_at, Writable, NotWritable};
 ghost use Rattle.voices.specs.Rows.{row_in};
@@ -105,13 +105,7 @@ impl<'a> Stored<'a> {
         requires { at < limit_in self.words.now }
         ensures { result ≡ row_in self.entry.words.now at }
     {
-        let [places, alterations, lengths] = regions_of(self.words).rows;
-        // three words of one region each: a `Rows` of all regions would be cut out of the words first (no plainer)
-        Row {
-            place: self.words[places + at],
-            alteration: self.words[alterations + at],
-            length: self.words[lengths + at],
-        }
+        self.regions().row(at)
     }
 
     /// How many events stand before a voice, in the voices before it.
@@ -156,6 +150,7 @@ impl<'a> Stored<'a> {
         Some(Span { begin, count })
     }
 
+    // Here and where a score is changed each check hands on its value or returns the refusal (a rule of the project).
     /// What a put and a change begin with: the words of the event, and where the events of the voice lie; or why neither can be done.
     pub(crate) fn find_writable(self, voice: u32, event: Event) -> Result<(Row, Span), Refusal>
         ensures { MatchResult result (λ b. Writable self.entry.words.now voice (event_meant event) b.0 b.1) (λ f. NotWritable self.entry.words.now voice (event_meant event) f) }
@@ -178,13 +173,22 @@ impl<'a> Stored<'a> {
         Event::try_from(self.row_at(at)).ok()
     }
 
+    /// Which word says how long a voice is that is there.
+    // A voice that is there is its number, here and where a score is changed: the definitions take the number, and a value of its own would be taken apart.
+    pub(crate) fn ticks_at(self, voice: usize) -> usize
+        requires { voice < voices_in self.words.now }
+        ensures { result ≡ ticks_from self.entry.words.now + voice }
+    {
+        COUNTS + self.words[VOICES] as usize + voice
+    }
+
     /// How long a voice is that is there.
     pub(crate) fn ticks_of(self, voice: usize) -> u32
         requires { voice < voices_in self.words.now }
         ensures value { result ≡ total (voice_of_score (score_of self.entry.words.now) voice) }
         ensures short { result < ticks_end }
     {
-        self.words[COUNTS + self.words[VOICES] as usize + voice]
+        self.words[self.ticks_at(voice)]
     }
 
     /// How long a voice is.

@@ -1,5 +1,5 @@
 -- A word into each region, and the voice's count and ticks.
-use Rattle.std.proofs.Common.{arith}
+use Rattle.std.proofs.Common.{get_or, ap, arith}
 use Rattle.memory.specs.Moves.{rows_in, with_event}
 use Rattle.memory.proofs.Held.{count_at, within_limit}
 use Rattle.voices.proofs.editing.insert_event.Goals as goal
@@ -12,4 +12,7 @@ overflow_add-words c =
 
 pub returns : goal.returns
 unfolding rows_in with_event
-returns c = cc
+returns c =
+    let rows = ap (λ r. get_or r.rows 0 0) c.regions_of-regions.ensures.begins in
+    let onsets = ap (λ r. get_or r.onsets 0 0) c.regions_of-regions.ensures.begins in
+    cc

@@ -1,11 +1,8 @@
 -- Event after event is derived, and where no mark is left, all that was to be derived is.
-use Rattle.std.proofs.Common.{◌≡◌, ℕ, List, length, get_or, sym, refl, ap, ◌∙◌, subst, arith}
+use Rattle.std.proofs.Common.{ℕ, List, get_or, sym, refl, ap, ◌∙◌, subst, arith}
 use Rattle.keys.proofs.Holding.{held_key}
 use Rattle.marks.specs.Marked.{has}
-use Rattle.memory.specs.Store.{marks_from}
 use Rattle.memory.specs.Words.{Deriving}
-use Rattle.voices.specs.declared.regions.Regions.{Regions}
-use Rattle.voices.specs.Regions.{regions_in}
 use Rattle.voices.proofs.Onward.{marks_is, header_word, same_regions, lent_marks, own_key, marks_long, in_limit, no_mark, over_line, in_bar}
 use Rattle.voices.proofs.keeping.derive.Goals as goal
 use Rattle.voices.proofs.keeping.derive.Goals.{then-tick-measure, else-tick-measure}

@@ -1,5 +1,5 @@
 -- What is left behind one line and is less than a bar is the remainder.
-use Rattle.std.proofs.Common.{◌≡◌, ℕ, ◌+◌, ◌-◌, ◌/◌, ◌%◌, sym, ◌∙◌, mod-eq_of_lt, arith}
+use Rattle.std.proofs.Common.{◌≡◌, ℕ, ◌+◌, ◌-◌, ◌/◌, sym, ◌∙◌, mod-eq_of_lt, arith}
 use native.Mathlib.Nat.{div-eq_of_lt, div-eq-sub-div, mod-eq-sub-mod}
 use Rattle.voices.proofs.keeping.over_line.Goals as goal
 
