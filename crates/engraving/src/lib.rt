@@ -68,8 +68,9 @@ impl Voice<'_> {
         ensures { signs.new ≡ signs_of self.entry.layout.key self.entry.layout.bar (voice_in self.entry.rows) ++ drop (length self.entry.rows.lengths.now) signs.old }
     {
         let Voice { rows, layout } = self;
-        let mut holds = [0; PLACES];
-        begin_bar(layout.key, &mut holds);
+        let mut key = [0; PLACES];
+        begin_bar(layout.key, &mut key);
+        let mut holds = key;
         let mut tick = 0;
         // by their number: of a zip with `signs.iter_mut()` the loop's invariant knows the words that are left and not `signs`
         for i in 0..rows.lengths.len() {
@@ -78,7 +79,7 @@ impl Voice<'_> {
             tick += row.length as u64;
             if tick >= layout.bar as u64 {
                 tick %= layout.bar as u64;
-                begin_bar(layout.key, &mut holds);
+                holds = key;
             }
         }
     }

@@ -47,7 +47,7 @@ loop-i-preserved c =
     let q = this (goal.at.loop-i-preserved c).After-row-row in
     let n = length-set c.loop-i.signs c.loop-i.i c.kept_sign.result in (
       write_front c.loop-i.signs _ _ _ c.loop-i.i c.kept_sign.result _ (omega arith) c.loop-i.invariant.0 (elim c.if-tick-layout.branch [
-        | then-tick-layout w ↦ over_turn _ _ _ _ _ _ q c.loop-i.invariant.4 w.if-tick-layout.true w.tick-is (w.holds-is ∙ w.begin_bar-then-tick-layout.ensures)
+        | then-tick-layout w ↦ over_turn _ _ _ _ _ _ q c.loop-i.invariant.4 w.if-tick-layout.true w.tick-is (w.holds-is ∙ c.begin_bar.ensures)
         | else-tick-layout w ↦ within_turn _ _ _ _ _ _ q c.loop-i.invariant.4 w.if-tick-layout.false w.tick-is (w.holds-is ∙ c.sign_of.ensures.holds)
       ]) (c.kept_sign.ensures ∙ c.sign_of.ensures.sign),
       write_back c.loop-i.signs c.args.signs.now c.loop-i.i c.kept_sign.result c.loop-i.invariant.1,
@@ -57,7 +57,7 @@ loop-i-preserved c =
         | else-tick-layout w ↦ simp w.tick-is w.if-tick-layout.false
       ],
       elim c.if-tick-layout.branch [
-        | then-tick-layout w ↦ ap length w.holds-is ∙ w.begin_bar-then-tick-layout.array_long
+        | then-tick-layout w ↦ ap length w.holds-is ∙ c.begin_bar.array_long
         | else-tick-layout w ↦ ap length w.holds-is ∙ c.sign_of.array_long
       ],
     )
