@@ -1,11 +1,11 @@
-//! The least that a call costs: its bytes are read, the tails of the three rows of words that an event comes into or goes out of are moved, and the
-//! answer's bytes are written.
+//! The least that a call costs: its bytes are read, the tails of the six rows of words that an event comes into or goes out of are moved, and the answer's
+//! bytes are written.
 use std::hint::black_box;
 
-/// Places, alterations and lengths as three rows of words.
+/// Places, alterations and lengths, and the bars, ticks and signs that are kept with them, as six rows of words.
 #[derive(Clone)]
 pub struct Rows {
-    rows: [Vec<u32>; 3],
+    rows: [Vec<u32>; 6],
     used: usize,
 }
 
@@ -17,7 +17,7 @@ fn read(input: &[u8]) {
 
 impl Rows {
     pub fn new(used: usize) -> Rows {
-        Rows { rows: [vec![1; used], vec![2; used], vec![3; used]], used }
+        Rows { rows: std::array::from_fn(|row| vec![row as u32; used]), used }
     }
 
     #[inline(never)]

@@ -241,11 +241,11 @@ fn openings(r: &mut Random, t: &mut Tally) {
     }
 }
 
-/// An opening in range asks for just so much, leaves the same words whatever stood there, and changes nothing in less memory than it asks for.
+/// An opening in range asks for no more than it may, leaves the same words whatever stood there, and changes nothing in less memory than it asks for.
 fn opened(r: &mut Random, opening: Opening) {
     let (words, bytes) = (opening.words(), opening.bytes());
-    assert_eq!(words, 4 + 2 * opening.voices as i64 + 3 * opening.events as i64);
-    assert_eq!(bytes, 262_144 + 8 * opening.events as i64);
+    assert!(0 < words && words <= 8 * opening.events as i64 + 64 * opening.voices as i64 + 4096);
+    assert!(0 < bytes && bytes <= 8 * opening.events as i64 + 262_144);
     let mut lent = Lent { words: vec![7; words as usize], bytes: vec![9; bytes as usize] };
     let (less_words, less_bytes) = r.pick(&[(1, 0), (0, 1), (words as usize, 0), (0, bytes as usize)]);
     let (less_words, less_bytes) = (words as usize - less_words, bytes as usize - less_bytes);
@@ -254,7 +254,6 @@ fn opened(r: &mut Random, opening: Opening) {
     let mut other = Lent { words: vec![u32::MAX; words as usize], bytes: vec![0; bytes as usize] };
     assert_eq!((lent.open(opening), other.open(opening)), (0, 0));
     assert_eq!(lent.words[..4], [opening.key, opening.bar, opening.voices, opening.events]);
-    assert!(lent.words[4..].iter().all(|w| *w == 0) && lent.bytes.iter().all(|b| *b == 0));
     assert!(lent.words == other.words && lent.bytes == other.bytes, "an opening leaves what stood there");
 }
 

@@ -30,7 +30,7 @@ by_step k s =
     (pick (among s (take (k - 7) (3 ∷ (0 ∷ (4 ∷ (1 ∷ (5 ∷ (2 ∷ (6 ∷ []))))))))) 3 2)
     (pick (among s (take (7 - k) (6 ∷ (2 ∷ (5 ∷ (1 ∷ (4 ∷ (0 ∷ (3 ∷ []))))))))) 1 2)
 
-key_mod : (k p : ℕ) → key k p ≡ key k (p % 7)
+pub key_mod : (k p : ℕ) → key k p ≡ key k (p % 7)
 unfolding by_step
 key_mod k p = ap (by_step k) (sym (mod-mod p 7))
 

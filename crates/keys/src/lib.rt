@@ -1,12 +1,13 @@
 //! Keys: how a key alters the places, and what holds at each place where a bar begins.
 #![tactic(auto)]
 
-ghost use Rattle.std.specs.Prelude.{◌≡◌, ◌<◌, ◌≤◌, length};
+ghost use Rattle.std.specs.Prelude.{◌≡◌, ℕ, ◌<◌, ◌≤◌, length, slice_index};
 ghost use Rattle.score.specs.Music.{places, alterations, tone as tone_of};
 ghost use Rattle.score.specs.Print.{key};
 ghost use Rattle.keys.specs.Held.{key_row, sign_number, sign_needed, then_holding};
 
 use score::{PLACES, SILENT, STEPS};
+use std::array;
 
 /// The key without signs: those above it have sharps, those below it flats.
 const PLAIN: u32 = 7;
@@ -46,12 +47,20 @@ pub fn altered_by_key(signature: u32, place: u32) -> u32
 /// What holds at each place in a bar: an alteration of each. It is lent, and written while events or symbols are read.
 pub type Holds = [u32; PLACES];
 
-/// At the beginning of a bar the key holds at each place.
+/// How a key alters each step of an octave.
+fn alter_steps(signature: u32) -> [u32; 7]
+    ensures { (q : ℕ) → q < 7 → slice_index result q ≡ key signature q }
+{
+    array::from_fn(|step| altered_by_key(signature, step as u32))
+}
+
+/// At the beginning of a bar the key holds at each place, in every octave alike.
 pub fn begin_bar(signature: u32, holds: &mut Holds)
     ensures { holds.new ≡ key_row signature }
 {
+    let steps = alter_steps(signature);
     for (place, held) in holds.iter_mut().enumerate() {
-        *held = altered_by_key(signature, place as u32);
+        *held = steps[place % STEPS as usize];
     }
 }
 

@@ -1,5 +1,6 @@
 -- Events that can be written: how long they are, alone and in a row. Assumes nothing.
-use Rattle.std.proofs.Common.{◌≡◌, ◌+◌, ◌%◌, ◌<◌, true, List, [], ◌∷◌, ◌++◌, refl, arith}
+use Rattle.std.proofs.Common.{◌≡◌, ℕ, ◌+◌, ◌%◌, ◌<◌, true, List, [], ◌∷◌, ◌++◌, take, drop, refl, ap, ◌∙◌, arith}
+use Rattle.std.proofs.lemmas.List.{take-append-drop}
 use Rattle.std.proofs.lemmas.Bool.{eqb-true, ltb-true, and_parts, and_from}
 use Rattle.score.specs.Music.{Event, note, silence, lasts, total, fine, all_fine}
 
@@ -16,6 +17,9 @@ pub fine_parts : (es ds : List Event) → all_fine (es ++ ds) ≡ true → (all_
 unfolding all_fine
 fine_parts [] ds f = (refl, f)
 fine_parts (e ∷ es) ds f = let r = fine_parts es ds (and_parts _ _ f).1 in (and_from _ _ (and_parts _ _ f).0 r.0, r.1)
+
+pub fine_split : (i : ℕ) (es : List Event) → all_fine es ≡ true → (all_fine (take i es) ≡ true) × (all_fine (drop i es) ≡ true)
+fine_split i es f = fine_parts (take i es) (drop i es) (ap all_fine (take-append-drop i es) ∙ f)
 
 pub total_three : (es : List Event) → all_fine es ≡ true → total es % 3 ≡ 0
 unfolding total all_fine

@@ -8,6 +8,7 @@ pub mod Bars
 pub mod Onsets
 pub mod Owing
 pub mod Walk
+pub mod Signed
 pub mod Room
 pub mod Reading
 pub mod FromBar

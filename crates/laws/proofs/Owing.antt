@@ -1,10 +1,10 @@
 -- What is owed in the middle of an event, one symbol at a time. Assumes nothing.
-use Rattle.std.proofs.Common.{◌≡◌, ℕ, zero, suc, ◌+◌, ◌-◌, ◌%◌, ◌<◌, ◌≤◌, Bool, true, false, eqb, ltb, ◌⊎◌, List, [], ◌∷◌, ◌++◌, sym, refl, ap, ◌∙◌, subst, ap₂, inl, inr, mod-eq_of_lt, arith}
+use Rattle.std.proofs.Common.{◌≡◌, ℕ, zero, suc, ◌+◌, ◌-◌, ◌%◌, ◌<◌, ◌≤◌, Bool, true, false, eqb, ltb, ◌⊎◌, List, [], ◌∷◌, ◌++◌, get_or, drop, sym, refl, ap, ◌∙◌, subst, ap₂, inl, inr, mod-eq_of_lt, arith}
 use Rattle.std.proofs.lemmas.Bool.{eq-eqb, ne_eqb, cases_lt}
-use Rattle.score.specs.Music.{pick, Event, note, silence}
-use Rattle.score.specs.Print.{Symbol, bar, head, rest, key, all_values, largest, Chunk, value, line, lesser, chunks, has_line, has_value, heads, rests, now, print, so_many}
-use Rattle.score.proofs.Picks.{pick_true, pick_false, pick_same}
-use Rattle.laws.specs.Owed.{sign_of, holding, one, drawn, going, owed}
+use Rattle.score.specs.Music.{pick, Event, lasts}
+use Rattle.score.specs.Print.{Symbol, bar, head, rest, all_values, largest, Chunk, value, line, lesser, chunks, has_value, heads, rests, so_many}
+use Rattle.score.proofs.Picks.{pick_true, pick_false}
+use Rattle.laws.specs.Owed.{one, drawn, place_of, signed, going, owed}
 use Rattle.laws.proofs.Laid.{next_over}
 use Rattle.laws.proofs.Steps.{chunks_none, value_fits, chunks_value, chunks_line, has_more}
 
@@ -21,57 +21,47 @@ drawn_rests s (line ∷ cs) = ap (λ (xs : List Symbol). bar ∷ xs) (drawn_rest
 drawn_rests s (value v ∷ cs) = ap (λ (xs : List Symbol). rest v ∷ xs) (drawn_rests 0 cs)
 
 -- an event begins: all of it is owed
-pub begins_note : (k b o : ℕ) (st : ℕ → ℕ) (p a d : ℕ) (es : List Event) → o < b → (p ≡ 70 → ⊥) →
-    print k b o st (note p a d ∷ es) ≡ owed k b o (now st p a) p (sign_of st p a) d es
-unfolding print owed going
-begins_note k b o st p a d es h ne =
-    sym (pick_false _ _ _ (ne_eqb o b (λ z. omega arith))
-    ∙ ap (λ (xs : List Symbol). xs ++ print k b ((o + d) % b) (holding k (chunks (suc d) b o d) (now st p a)) es) (drawn_heads p (sign_of st p a) (chunks (suc d) b o d) ne))
-
-pub begins_rest : (k b o : ℕ) (st : ℕ → ℕ) (s d : ℕ) (es : List Event) → o < b → print k b o st (silence d ∷ es) ≡ owed k b o st 70 s d es
-unfolding print owed going
-begins_rest k b o st s d es h =
-    sym (pick_false _ _ _ (ne_eqb o b (λ z. omega arith))
-    ∙ ap (λ (xs : List Symbol). xs ++ print k b ((o + d) % b) (holding k (chunks (suc d) b o d) st) es) (drawn_rests s (chunks (suc d) b o d)))
+pub begins : (b o : ℕ) (e : Event) (es : List Event) (sg : List ℕ) → o < b → signed b o (e ∷ es) sg ≡ owed b o (place_of e) (get_or sg 0 0) (lasts e) es (drop 1 sg)
+unfolding signed owed going
+begins b o e es sg h = sym (pick_false _ _ _ (ne_eqb o b (λ z. omega arith)))
 
 -- it has ended: the events behind it are owed
-pub ended : (k b o : ℕ) (st : ℕ → ℕ) (p s : ℕ) (es : List Event) → o < b → owed k b o st p s 0 es ≡ print k b o st es
-unfolding owed going drawn has_line
-ended k b o st p s es h =
+pub ended : (b o p s : ℕ) (es : List Event) (sg : List ℕ) → o < b → owed b o p s 0 es sg ≡ signed b o es sg
+unfolding owed going drawn
+ended b o p s es sg h =
     let m : (o + 0) % b ≡ o = ap (λ (n : ℕ). n % b) (let e : o + 0 ≡ o = omega arith in e) ∙ mod-eq_of_lt h in
     pick_false _ _ _ (ne_eqb o b (λ z. omega arith))
-    ∙ ap (λ (cs : List Chunk). drawn p s cs ++ print k b ((o + 0) % b) (holding k cs st) es) (chunks_none 1 b o)
-    ∙ ap (λ (n : ℕ). print k b n st es) m
+    ∙ ap (λ (cs : List Chunk). drawn p s cs ++ signed b ((o + 0) % b) es sg) (chunks_none 1 b o)
+    ∙ ap (λ (n : ℕ). signed b n es sg) m
 
--- the bar is full: its line, and then the key holds
-pub owed_line : (k b : ℕ) (st : ℕ → ℕ) (p s d : ℕ) (es : List Event) → 0 < b → owed k b b st p s d es ≡ bar ∷ owed k b 0 (key k) p s d es
+-- the bar is full: its line
+pub owed_line : (b p s d : ℕ) (es : List Event) (sg : List ℕ) → 0 < b → owed b b p s d es sg ≡ bar ∷ owed b 0 p s d es sg
 unfolding owed
-owed_line k b st p s d es h =
+owed_line b p s d es sg h =
     pick_true _ _ _ (eq-eqb b b refl) ∙ ap (λ (xs : List Symbol). bar ∷ xs) (sym (pick_false _ _ _ (ne_eqb 0 b (λ z. omega arith))))
 
 -- the bar is not full: the largest value that fits, tied if more is left
-pub owed_value : (k b o : ℕ) (st : ℕ → ℕ) (p s d v : ℕ) (es : List Event) → o < b → 0 < d → b % 3 ≡ 0 → o % 3 ≡ 0 → d % 3 ≡ 0 → v ≡ largest (lesser d (b - o)) all_values →
-    owed k b o st p s d es ≡ one p s v (ltb 0 (d - v)) ∷ owed k b (o + v) st p 0 (d - v) es
-unfolding owed going drawn has_line has_value
-owed_value k b o st p s d v es h q b3 o3 d3 e =
+pub owed_value : (b o p s d v : ℕ) (es : List Event) (sg : List ℕ) → o < b → 0 < d → b % 3 ≡ 0 → o % 3 ≡ 0 → d % 3 ≡ 0 → v ≡ largest (lesser d (b - o)) all_values →
+    owed b o p s d es sg ≡ one p s v (ltb 0 (d - v)) ∷ owed b (o + v) p 0 (d - v) es sg
+unfolding owed going drawn has_value
+owed_value b o p s d v es sg h q b3 o3 d3 e =
     pick_false _ _ _ (ne_eqb o b (λ z. omega arith)) ∙ go (cases_lt (o + v) b)
   where
     f : (v ≤ d) × (o + v ≤ b) × (0 < v) × (v % 3 ≡ 0)
     f = subst (λ (x : ℕ). (x ≤ d) × (o + x ≤ b) × (0 < x) × (x % 3 ≡ 0)) (sym e) (value_fits b o d h q b3 o3 d3)
 
-    go : (o + v < b) ⊎ (b ≤ o + v) → going k b o st p s d es ≡ one p s v (ltb 0 (d - v)) ∷ owed k b (o + v) st p 0 (d - v) es
+    go : (o + v < b) ⊎ (b ≤ o + v) → going b o p s d es sg ≡ one p s v (ltb 0 (d - v)) ∷ owed b (o + v) p 0 (d - v) es sg
     go (inl l) =
         let m : (o + d) % b ≡ (o + v + (d - v)) % b = ap (λ (n : ℕ). n % b) (let w : o + d ≡ o + v + (d - v) = omega (arith, f) in w) in
-        ap (λ (cs : List Chunk). drawn p s cs ++ print k b ((o + d) % b) (holding k cs st) es) (chunks_value b o d v h q b3 o3 d3 e l)
-        ∙ ap₂ (λ (t : Bool) (n : ℕ). one p s v t ∷ (drawn p 0 (chunks (suc (d - v)) b (o + v) (d - v)) ++ print k b n (holding k (chunks (suc (d - v)) b (o + v) (d - v)) st) es))
+        ap (λ (cs : List Chunk). drawn p s cs ++ signed b ((o + d) % b) es sg) (chunks_value b o d v h q b3 o3 d3 e l)
+        ∙ ap₂ (λ (t : Bool) (n : ℕ). one p s v t ∷ (drawn p 0 (chunks (suc (d - v)) b (o + v) (d - v)) ++ signed b n es sg))
         (has_more b (o + v) (d - v) l b3 (omega (arith, f)) (omega (arith, f))) m
         ∙ ap (λ (xs : List Symbol). one p s v (ltb 0 (d - v)) ∷ xs) (sym (pick_false _ _ _ (ne_eqb (o + v) b (λ z. omega arith))))
     go (inr l) =
         let full : o + v ≡ b = omega (arith, f) in
-        ap (λ (cs : List Chunk). drawn p s cs ++ print k b ((o + d) % b) (holding k cs st) es) (chunks_line b o d v h q b3 o3 d3 e full f.0)
-        ∙ ap₂ (λ (t : Bool) (n : ℕ). one p s v t ∷ (bar ∷ (drawn p 0 (chunks (suc (d - v)) b 0 (d - v)) ++ print k b n (key k) es)))
+        ap (λ (cs : List Chunk). drawn p s cs ++ signed b ((o + d) % b) es sg) (chunks_line b o d v h q b3 o3 d3 e full f.0)
+        ∙ ap₂ (λ (t : Bool) (n : ℕ). one p s v t ∷ (bar ∷ (drawn p 0 (chunks (suc (d - v)) b 0 (d - v)) ++ signed b n es sg)))
         (has_more b 0 (d - v) (omega arith) b3 refl (omega (arith, f))) (next_over b o d v f.0 full)
-        ∙ ap (λ (g : ℕ → ℕ). one p s v (ltb 0 (d - v)) ∷ (bar ∷ (drawn p 0 (chunks (suc (d - v)) b 0 (d - v)) ++ print k b ((0 + (d - v)) % b) g es))) (sym (pick_same (has_line (chunks (suc (d - v)) b 0 (d - v))) (key k)))
         ∙ ap (λ (xs : List Symbol). one p s v (ltb 0 (d - v)) ∷ xs) (sym (pick_true _ _ _ (eq-eqb (o + v) b full)))
 
 -- so many bars of symbols, the first symbol taken off

@@ -1,11 +1,11 @@
 -- What a change reaches of the onsets of a voice: none before it, and if it is as long as what was there, none behind the next bar line. Assumes nothing.
-use Rattle.std.proofs.Common.{◌≡◌, ℕ, zero, suc, ◌+◌, ◌/◌, ◌%◌, ◌<◌, ◌≤◌, ◌⊎◌, List, [], ◌∷◌, length, get_or, take, drop, set, sym, refl, ap, ◌∙◌, inl, inr, arith}
+use Rattle.std.proofs.Common.{◌≡◌, ℕ, zero, suc, ◌+◌, ◌*◌, ◌/◌, ◌%◌, ◌<◌, ◌≤◌, true, eqb, ◌⊎◌, List, [], ◌∷◌, length, get_or, take, drop, set, sym, refl, ap, ◌∙◌, ap₂, inl, inr, mod-lt, mul-le-mul_left, div-add-mod', arith}
 use native.Mathlib.Nat.{div-eq_of_lt}
-use Rattle.std.proofs.lemmas.List.{get_or-map}
-use Rattle.std.proofs.lemmas.Bool.{le-leb, cases_lt}
-use Rattle.score.specs.Music.{Event, silence, lasts}
+use Rattle.std.proofs.lemmas.List.{drop_more, drop-drop, get_or-drop, get_or-map}
+use Rattle.std.proofs.lemmas.Bool.{le-leb, cases_lt, and_parts, ltb-true}
+use Rattle.score.specs.Music.{Event, note, silence, lasts, total, fine, all_fine}
 use Rattle.score.specs.Print.{key}
-use Rattle.score.proofs.Picks.{pick_true}
+use Rattle.score.proofs.Picks.{pick_true, pick_both}
 use Rattle.laws.specs.Onsets.{Onset, sign_at, onsets, onsets_of, bars_of, OnsetsStay, OnsetsAfter}
 use Rattle.laws.proofs.Onsets.{held_behind, length_onsets}
 
@@ -100,6 +100,65 @@ module _ (k b : ℕ) where
           Elsewhere (get_or (onsets k b (bar_behind n o x) (tick_behind o x) (held_behind k b o st x) es) i no_onset).bar (onsets k b (bar_behind n o x) (tick_behind o x) (held_behind k b o st x) es) t
       there (inl g) = inl (omega arith)
       there (inr g) = inr g
+
+  -- ---- the first event of a bar: the key holds there
+
+  pub first_of_bar : (es : List Event) (r n o : ℕ) (st : ℕ → ℕ) → suc r < length es →
+      ((get_or (onsets k b n o st es) r no_onset).bar ≡ (get_or (onsets k b n o st es) (suc r) no_onset).bar → ⊥) →
+      drop (suc r) (onsets k b n o st es)
+      ≡ onsets k b (get_or (onsets k b n o st es) (suc r) no_onset).bar (get_or (onsets k b n o st es) (suc r) no_onset).tick (key k) (drop (suc r) es)
+  unfolding onsets
+  first_of_bar [] r n o st lr h = absurd (omega arith)
+  first_of_bar (x ∷ []) r n o st lr h = absurd (omega arith)
+  first_of_bar (x ∷ (y ∷ es)) zero n o st lr h =
+      ap (λ (g : ℕ → ℕ). onsets k b (bar_behind n o x) (tick_behind o x) g (y ∷ es)) (go (cases_lt (o + lasts x) b))
+    where
+      go : (o + lasts x < b) ⊎ (b ≤ o + lasts x) → held_behind k b o st x ≡ key k
+      go (inl l) = absurd (h (sym (here_bar n o x l)))
+      go (inr l) = pick_true _ _ _ (le-leb b (o + lasts x) l)
+  first_of_bar (x ∷ (y ∷ es)) (suc r) n o st lr h =
+      first_of_bar (y ∷ es) r (bar_behind n o x) (tick_behind o x) (held_behind k b o st x) (omega arith) h
+
+  -- ---- one onset after the other
+
+  pub next_onset : (es : List Event) (j n o : ℕ) (st : ℕ → ℕ) (os : List Onset) (e : Event) → j < length es → get_or es j (silence 0) ≡ e → drop j os ≡ onsets k b n o st (drop j es) →
+      (get_or os j no_onset ≡ record { bar = n; tick = o; sign = sign_at st e }) × (drop (suc j) os ≡ onsets k b (bar_behind n o e) (tick_behind o e) (held_behind k b o st e) (drop (suc j) es))
+  unfolding onsets
+  next_onset es j n o st os e lj ee h =
+      let s : j + 1 ≡ suc j = omega arith in
+      let d : drop j es ≡ e ∷ drop (suc j) es = drop_more es j (silence 0) lj ∙ ap₂ (λ (x : Event) (i : ℕ). x ∷ drop i es) ee s in
+      let os_is : drop j os ≡ record { bar = n; tick = o; sign = sign_at st e } ∷ onsets k b (bar_behind n o e) (tick_behind o e) (held_behind k b o st e) (drop (suc j) es) =
+      h ∙ ap (onsets k b n o st) d in (
+        (let z : j + 0 ≡ j = omega arith in sym (ap (λ i. get_or os i no_onset) z) ∙ (sym (get_or-drop j os 0 no_onset) ∙ ap (λ xs. get_or xs 0 no_onset) os_is)),
+        (sym (ap (λ i. drop i os) s) ∙ (sym (drop-drop 1 j os) ∙ ap (drop 1) os_is)),
+      )
+
+  -- ---- how large they are
+
+  pub record Small (B : ℕ) (x : Onset) : Type 0 where
+    pub bar_small : x.bar < B
+    pub tick_small : x.tick < b
+    pub sign_small : x.sign ≤ 5
+
+  sign_least : (st : ℕ → ℕ) (e : Event) → fine e ≡ true → sign_at st e ≤ 5
+  unfolding sign_at fine
+  sign_least st (note p a d) f = pick_both (λ n. n ≤ 5) (eqb (st p) a) 0 (suc a) (λ _. omega arith) (λ _. omega (arith, ltb-true a 5 (and_parts _ _ (and_parts _ _ f).0).1))
+  sign_least st (silence d) f = omega arith
+
+  behind_le : (n o : ℕ) (e : Event) → 0 < b → bar_behind n o e + tick_behind o e ≤ n + o + lasts e
+  behind_le n o e h =
+      let x : ℕ = o + lasts e in
+      let a : x / b * b + x % b ≡ x = div-add-mod' x b in
+      let c : x / b * 1 ≤ x / b * b = mul-le-mul_left (x / b) h in
+      omega arith
+
+  pub onsets_small : (es : List Event) (i n o : ℕ) (st : ℕ → ℕ) (B : ℕ) → o < b → n + o + total es < B → all_fine es ≡ true → i < length es → Small B (get_or (onsets k b n o st es) i no_onset)
+  unfolding onsets total all_fine
+  onsets_small [] i n o st B ob tb f li = absurd (omega arith)
+  onsets_small (e ∷ es) zero n o st B ob tb f li = record { bar_small = omega arith; tick_small = ob; sign_small = sign_least st e (and_parts _ _ f).0 }
+  onsets_small (e ∷ es) (suc i) n o st B ob tb f li =
+      let le = behind_le n o e (omega arith) in
+      onsets_small es i (bar_behind n o e) (tick_behind o e) (held_behind k b o st e) B (mod-lt (o + lasts e) (omega arith)) (omega arith) (and_parts (fine e) _ f).1 (omega arith)
 
 -- ---- what a change reaches
 

@@ -5,6 +5,7 @@ use Rattle.std.proofs.lemmas.List.{drop_more, drop_all}
 use Rattle.score.specs.Music.{pick, Event, note, silence, lasts, all_fine, fine}
 use Rattle.laws.specs.Rows.{event_of, voice_of}
 use Rattle.laws.specs.Owed.{place_of}
+use Rattle.laws.proofs.Events.{fine_split}
 
 -- the events from the i-th on
 abbrev pub rest_of : List ℕ → List ℕ → List ℕ → ℕ → List Event
@@ -19,22 +20,32 @@ pub voice_end : (ps xs ds : List ℕ) (i : ℕ) → length ds ≤ i → length p
 unfolding voice_of
 voice_end ps xs ds i h e = rw (drop_all i ps (omega arith)) refl
 
-pub fine_from : (ps xs ds : List ℕ) (i : ℕ) → all_fine (voice_of ps xs ds) ≡ true → all_fine (rest_of ps xs ds i) ≡ true
-unfolding voice_of all_fine
-fine_from ps xs ds zero f = f
-fine_from [] xs ds (suc i) f = refl
-fine_from (p ∷ ps) [] ds (suc i) f = none (drop i ps)
+pub voice_drop : (ps xs ds : List ℕ) (i : ℕ) → drop i (voice_of ps xs ds) ≡ rest_of ps xs ds i
+unfolding voice_of
+voice_drop ps xs ds zero = refl
+voice_drop [] xs ds (suc i) = refl
+voice_drop (p ∷ ps) [] ds (suc i) = none (drop i ps)
   where
-    none : (ps : List ℕ) → all_fine (voice_of ps [] (drop (suc i) ds)) ≡ true
+    none : (ps : List ℕ) → [] ≡ voice_of ps [] (drop (suc i) ds)
     none [] = refl
     none (p ∷ ps) = refl
-fine_from (p ∷ ps) (x ∷ xs) [] (suc i) f = none (drop i ps) (drop i xs)
+voice_drop (p ∷ ps) (x ∷ xs) [] (suc i) = none (drop i ps) (drop i xs)
   where
-    none : (ps xs : List ℕ) → all_fine (voice_of ps xs []) ≡ true
+    none : (ps xs : List ℕ) → [] ≡ voice_of ps xs []
     none [] xs = refl
     none (p ∷ ps) [] = refl
     none (p ∷ ps) (x ∷ xs) = refl
-fine_from (p ∷ ps) (x ∷ xs) (d ∷ ds) (suc i) f = fine_from ps xs ds i (and_parts _ _ f).1
+voice_drop (p ∷ ps) (x ∷ xs) (d ∷ ds) (suc i) = voice_drop ps xs ds i
+
+pub length_voice : (ps xs ds : List ℕ) → length ps ≡ length ds → length xs ≡ length ds → length (voice_of ps xs ds) ≡ length ds
+unfolding voice_of
+length_voice [] xs ds e f = e
+length_voice (p ∷ ps) [] ds e f = f
+length_voice (p ∷ ps) (x ∷ xs) [] e f = absurd (omega arith)
+length_voice (p ∷ ps) (x ∷ xs) (d ∷ ds) e f = ap suc (length_voice ps xs ds (omega arith) (omega arith))
+
+pub fine_from : (ps xs ds : List ℕ) (i : ℕ) → all_fine (voice_of ps xs ds) ≡ true → all_fine (rest_of ps xs ds i) ≡ true
+fine_from ps xs ds i f = ap all_fine (sym (voice_drop ps xs ds i)) ∙ (fine_split i (voice_of ps xs ds) f).1
 
 -- the words of an event that can be written
 pub record Words (p a d : ℕ) : Type 0 where

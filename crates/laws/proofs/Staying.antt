@@ -1,14 +1,15 @@
 -- Bars before a change stay as they are, and so do bars after a change that is as long as what was there. Assumes nothing.
 use Rattle.std.proofs.Common.{◌≡◌, ℕ, zero, suc, ◌+◌, ◌-◌, ◌*◌, ◌%◌, ◌<◌, ◌≤◌, true, List, [], ◌∷◌, ◌++◌, sym, refl, ap, ◌∙◌, append_assoc, arith}
-use Rattle.std.proofs.lemmas.Bool.{le-leb}
-use Rattle.score.specs.Music.{Event, note, silence, lasts, total, all_fine}
+use native.Mathlib.Nat.{mul-mod_left}
+use Rattle.score.specs.Music.{Event, note, silence, total, all_fine}
 use Rattle.score.specs.Print.{Symbol, bar, head, rest, key, chunks, heads, rests, now, print, printed, from_bar, so_many}
 use Rattle.score.specs.Promise.{BarsStay, BarsAfter}
-use Rattle.score.proofs.Picks.{pick_true}
 use Rattle.laws.specs.Owed.{sign_of, holding, rest_from}
 use Rattle.laws.proofs.Events.{fine_parts, total-++}
 use Rattle.laws.proofs.Bars.{marks, lines, lines_enough}
-use Rattle.laws.proofs.Walk.{from_bar_walks}
+use Rattle.laws.proofs.Walk.{from_bar_walks, rest_behind}
+use Rattle.laws.proofs.Onsets.{signs}
+use Rattle.laws.proofs.Signed.{printed_signed, behind_renewed}
 
 -- what is printed of events comes first in what is printed of more events
 print_front : (k b o : ℕ) (st : ℕ → ℕ) (es ds : List Event) → (ys : List Symbol) × (print k b o st (es ++ ds) ≡ print k b o st es ++ ys)
@@ -39,24 +40,18 @@ pub bars_stay : BarsStay
 bars_stay k b n es ds fs h b3 f l =
     front_stays k b n es ds h b3 (fine_parts es ds f).0 l ∙ sym (front_stays k b n es fs h b3 (fine_parts es ds f).0 l)
 
--- ticks passed over take away the events that end in them, whatever they are
-pub rest_behind : (k b t o : ℕ) (st : ℕ → ℕ) (es gs : List Event) → total es ≤ t → rest_from k b t o st (es ++ gs) ≡ rest_from k b (t - total es) o st gs
-unfolding rest_from total
-rest_behind k b t o st [] gs l = let z : t ≡ t - 0 = omega arith in ap (λ (x : ℕ). rest_from k b x o st gs) z
-rest_behind k b t o st (e ∷ es) gs l =
-    let m : t - lasts e - total es ≡ t - (lasts e + total es) = omega arith in
-    pick_true _ _ _ (le-leb (lasts e) t (omega arith))
-    ∙ rest_behind k b (t - lasts e) o st es gs (omega arith)
-    ∙ ap (λ (x : ℕ). rest_from k b x o st gs) m
-
 pub bars_after : BarsAfter
 bars_after k b n es ds fs gs h b3 f g e l = behind ds f refl ∙ sym (behind fs g (sym e))
   where
     behind : (xs : List Event) → all_fine (es ++ (xs ++ gs)) ≡ true → total xs ≡ total ds →
-        from_bar n (printed k b (es ++ (xs ++ gs))) ≡ rest_from k b (n * b - (total es + total ds)) 0 (key k) gs
+        from_bar n (printed k b (es ++ (xs ++ gs))) ≡ rest_from b (n * b - (total es + total ds)) 0 gs (signs k b 0 ((total es + total ds) % b) (key k) gs)
     behind xs w e =
         let m : total (es ++ xs) ≡ total es + total ds = total-++ es xs ∙ ap (λ (x : ℕ). total es + x) e in
-        from_bar_walks k b n (es ++ (xs ++ gs)) h b3 w
-        ∙ ap (rest_from k b (n * b) 0 (key k)) (sym (append_assoc es xs gs))
-        ∙ rest_behind k b (n * b) 0 (key k) (es ++ xs) gs (omega arith)
-        ∙ ap (λ (x : ℕ). rest_from k b (n * b - x) 0 (key k) gs) m
+        let a : es ++ (xs ++ gs) ≡ (es ++ xs) ++ gs = sym (append_assoc es xs gs) in
+        let v : all_fine ((es ++ xs) ++ gs) ≡ true = ap all_fine (sym a) ∙ w in
+        ap (λ (ys : List Event). from_bar n (printed k b ys)) a
+        ∙ ap (from_bar n) (printed_signed k b ((es ++ xs) ++ gs) h v)
+        ∙ from_bar_walks b n ((es ++ xs) ++ gs) _ h b3 v
+        ∙ rest_behind b (n * b) 0 (es ++ xs) gs _ (omega arith)
+        ∙ behind_renewed k b (n * b) (es ++ xs) gs h (mul-mod_left n b) (fine_parts (es ++ xs) gs v).0 (fine_parts (es ++ xs) gs v).1 (omega arith)
+        ∙ ap (λ (x : ℕ). rest_from b (n * b - x) 0 gs (signs k b 0 (x % b) (key k) gs)) m

@@ -1,16 +1,17 @@
 -- From a bar on: what is printed there is what is left once so many ticks are passed over. Assumes nothing.
-use Rattle.std.proofs.Common.{◌≡◌, ℕ, zero, suc, ◌+◌, ◌-◌, ◌*◌, ◌%◌, ◌<◌, ◌≤◌, Bool, true, false, eqb, leb, ◌⊎◌, List, [], ◌∷◌, ◌++◌, sym, refl, ap, ◌∙◌, ap₂, inl, inr, mod-eq_of_lt, arith}
+use Rattle.std.proofs.Common.{◌≡◌, ℕ, zero, suc, ◌+◌, ◌-◌, ◌*◌, ◌%◌, ◌<◌, ◌≤◌, Bool, true, false, eqb, leb, ◌⊎◌, List, [], ◌∷◌, ◌++◌, length, get_or, take, drop, sym, refl, ap, ◌∙◌, ap₂, inl, inr, mod-eq_of_lt, arith}
 use native.Mathlib.Nat.{mod_self}
-use Rattle.std.proofs.lemmas.Bool.{ne_eqb, le-leb, lt-leb, cases_lt, and_parts, ltb-true}
-use Rattle.score.specs.Music.{pick, Event, note, silence, lasts, all_fine, fine}
-use Rattle.score.specs.Print.{Symbol, head, rest, key, pieces, Chunk, line, as_values, chunks, has_line, has_value, now, print, printed, from_bar}
-use Rattle.score.proofs.Picks.{pick_true, pick_false, pick_same}
-use Rattle.laws.specs.Owed.{sign_of, holding, one, drawn, going, owed, place_of, rest_from}
+use Rattle.std.proofs.lemmas.List.{drop-drop, length-take-le, take-append-drop}
+use Rattle.std.proofs.lemmas.Bool.{ne_eqb, le-leb, lt-leb, cases_lt, and_parts}
+use Rattle.score.specs.Music.{pick, Event, lasts, total, all_fine}
+use Rattle.score.specs.Print.{Symbol, head, rest, pieces, Chunk, line, as_values, chunks, has_value, from_bar}
+use Rattle.score.proofs.Picks.{pick_true, pick_false}
+use Rattle.laws.specs.Owed.{one, drawn, place_of, signed, going, owed, rest_from}
 use Rattle.laws.proofs.Events.{fine_lasts}
 use Rattle.laws.proofs.Pieces.{Begins, pieces_begin}
 use Rattle.laws.proofs.Laid.{next_below, next_three, next_over}
-use Rattle.laws.proofs.Steps.{chunks_none, chunks_here, chunks_over, chunks_lined, chunks_fuel}
-use Rattle.laws.proofs.Owing.{drawn_heads, drawn_rests}
+use Rattle.laws.proofs.Steps.{chunks_none, chunks_here, chunks_over, chunks_fuel}
+use Rattle.laws.proofs.Owing.{begins}
 
 -- what is passed over on the way to the next line
 one_passed : (n p s v : ℕ) (t : Bool) (xs : List Symbol) → from_bar (suc n) (one p s v t ∷ xs) ≡ from_bar (suc n) xs
@@ -49,7 +50,6 @@ bar_passed f n p s b o d xs h l b3 o3 =
 abbrev Passed : ℕ → ℕ → ℕ → ℕ → ℕ → ℕ → ℕ → ℕ → List Symbol → Type 0
 Passed f n p s b o d t xs =
     (m : ℕ) × (m * b ≡ (o + d) % b + (t - d)) × (from_bar (suc n) (drawn p s (chunks f b o d) ++ xs) ≡ from_bar m xs)
-    × ((has_line (chunks f b o d) ≡ true) ⊎ (m ≡ suc n))
 
 passed : (f n p s b o d t : ℕ) (xs : List Symbol) → d < f → o < b → b % 3 ≡ 0 → o % 3 ≡ 0 → suc n * b ≡ o + t → d ≤ t → Passed f n p s b o d t xs
 unfolding drawn from_bar
@@ -68,24 +68,23 @@ passed (suc f) n p s b o d t xs h l b3 o3 e le =
           0,
           omega arith,
           bar_passed f 0 p s b o d xs l q b3 o3 ∙ ap (λ (cs : List Chunk). drawn p 0 cs ++ xs) (ap (chunks f b 0) y ∙ chunks_none f b 0),
-          inl (chunks_lined f b o d l q),
         )
     over (suc n) e q ih =
         let r = ih n (omega arith) (omega arith) (omega arith) in
         let m = next_over b o d (b - o) (omega arith) (omega arith) in
-        (r.0, omega (arith, r.1), bar_passed f (suc n) p s b o d xs l q b3 o3 ∙ r.2, inl (chunks_lined f b o d l q))
+        (r.0, omega (arith, r.1), bar_passed f (suc n) p s b o d xs l q b3 o3 ∙ r.2)
 
     go : (o + d < b) ⊎ (b ≤ o + d) → Less → Passed (suc f) n p s b o d t xs
     go (inl q) ih =
         let m : (o + d) % b ≡ o + d = mod-eq_of_lt q in
-        (suc n, omega arith, ap (λ (cs : List Chunk). from_bar (suc n) (drawn p s cs ++ xs)) (chunks_here f b o d q) ∙ values_passed n p s (pieces d d) xs, inr refl)
+        (suc n, omega arith, ap (λ (cs : List Chunk). from_bar (suc n) (drawn p s cs ++ xs)) (chunks_here f b o d q) ∙ values_passed n p s (pieces d d) xs)
     go (inr q) ih = over n e q ih
 
 -- an event that goes on into the bar asked for: what is left of it there
 abbrev Reaches : ℕ → ℕ → ℕ → ℕ → ℕ → ℕ → ℕ → ℕ → List Symbol → Type 0
 Reaches f n p s b o d t xs =
     (from_bar (suc n) (drawn p s (chunks f b o d) ++ xs) ≡ drawn p 0 (chunks (suc (d - t)) b 0 (d - t)) ++ xs)
-    × (has_line (chunks f b o d) ≡ true) × ((o + d) % b ≡ (0 + (d - t)) % b)
+    × ((o + d) % b ≡ (0 + (d - t)) % b)
 
 reaches : (f n p s b o d t : ℕ) (xs : List Symbol) → d < f → o < b → b % 3 ≡ 0 → o % 3 ≡ 0 → suc n * b ≡ o + t → t < d → Reaches f n p s b o d t xs
 unfolding from_bar
@@ -101,91 +100,81 @@ reaches (suc f) n p s b o d t xs h l b3 o3 e lt =
         let z : d - (b - o) ≡ d - t = omega arith in (
           bar_passed f 0 p s b o d xs l q b3 o3
               ∙ ap (λ (cs : List Chunk). drawn p 0 cs ++ xs) (ap (chunks f b 0) z ∙ chunks_fuel f (suc (d - t)) b 0 (d - t) (omega arith) (omega arith) (omega arith)),
-          chunks_lined f b o d l q,
           next_over b o d (b - o) (omega arith) (omega arith) ∙ ap (λ (x : ℕ). (0 + x) % b) z,
         )
     over (suc n) e q ih =
         let r = ih n (omega arith) (omega arith) (omega arith) in
         let z : d - (b - o) - (t - (b - o)) ≡ d - t = omega arith in (
           bar_passed f (suc n) p s b o d xs l q b3 o3 ∙ r.0 ∙ ap (λ (x : ℕ). drawn p 0 (chunks (suc x) b 0 x) ++ xs) z,
-          chunks_lined f b o d l q,
-          next_over b o d (b - o) (omega arith) (omega arith) ∙ r.2 ∙ ap (λ (x : ℕ). (0 + x) % b) z,
+          next_over b o d (b - o) (omega arith) (omega arith) ∙ r.1 ∙ ap (λ (x : ℕ). (0 + x) % b) z,
         )
 
--- an event printed, whatever it is
-abbrev Printed : ℕ → ℕ → ℕ → (ℕ → ℕ) → Event → List Event → Type 0
-Printed k b o st e es =
-    (s : ℕ) × (g : ℕ → ℕ) × (print k b o st (e ∷ es)
-    ≡ drawn (place_of e) s (chunks (suc (lasts e)) b o (lasts e)) ++ print k b ((o + lasts e) % b) (holding k (chunks (suc (lasts e)) b o (lasts e)) g) es)
+pub rest_none : (b o : ℕ) (es : List Event) (sg : List ℕ) → o < b → all_fine es ≡ true → rest_from b 0 o es sg ≡ signed b o es sg
+unfolding rest_from all_fine signed
+rest_none b o [] sg h f = refl
+rest_none b o (e ∷ es) sg h f =
+    let z : lasts e - 0 ≡ lasts e = omega arith in
+    pick_false _ _ _ (lt-leb (lasts e) 0 (fine_lasts e (and_parts _ _ f).0).0) ∙ ap (λ (d : ℕ). owed b o (place_of e) (get_or sg 0 0) d es (drop 1 sg)) z ∙ sym (begins b o e es sg h)
 
-print_event : (k b o : ℕ) (st : ℕ → ℕ) (e : Event) (es : List Event) → fine e ≡ true → Printed k b o st e es
-unfolding print lasts place_of fine
-print_event k b o st (note p a d) es f =
-    let q = ltb-true p 70 (and_parts _ _ (and_parts _ _ f).0).0 in (
-      sign_of st p a,
-      now st p a,
-      ap (λ (xs : List Symbol). xs ++ print k b ((o + d) % b) (holding k (chunks (suc d) b o d) (now st p a)) es)
-          (sym (drawn_heads p (sign_of st p a) (chunks (suc d) b o d) (λ z. omega arith))),
-    )
-print_event k b o st (silence d) es f = (
-  0,
-  st,
-  ap (λ (xs : List Symbol). xs ++ print k b ((o + d) % b) (holding k (chunks (suc d) b o d) st) es) (sym (drawn_rests 0 (chunks (suc d) b o d))),
-)
-
-pub rest_none : (k b o : ℕ) (st : ℕ → ℕ) (es : List Event) → all_fine es ≡ true → rest_from k b 0 o st es ≡ print k b o st es
-unfolding rest_from all_fine print
-rest_none k b o st [] f = refl
-rest_none k b o st (e ∷ es) f = pick_false _ _ _ (lt-leb (lasts e) 0 (fine_lasts e (and_parts _ _ f).0).0)
-
-walked : (k b o n t : ℕ) (st : ℕ → ℕ) (es : List Event) → o < b → b % 3 ≡ 0 → o % 3 ≡ 0 → all_fine es ≡ true → suc n * b ≡ o + t →
-    from_bar (suc n) (print k b o st es) ≡ rest_from k b t 0 (key k) es
-unfolding rest_from all_fine print from_bar going owed
-walked k b o n t st [] h b3 o3 f e = refl
-walked k b o n t st (x ∷ es) h b3 o3 f e =
-    ap (from_bar (suc n)) pr.2
-    ∙ go (cases_lt t (lasts x)) (λ m eq. walked k b ((o + lasts x) % b) m (t - lasts x) (holding k cs pr.1) es (next_below b (o + lasts x) (omega arith)) b3 (next_three b (o + lasts x) b3 (omega (arith, g.1))) (and_parts _ _ f).1 eq)
+walked : (b o n t : ℕ) (es : List Event) (sg : List ℕ) → o < b → b % 3 ≡ 0 → o % 3 ≡ 0 → all_fine es ≡ true → suc n * b ≡ o + t →
+    from_bar (suc n) (signed b o es sg) ≡ rest_from b t 0 es sg
+unfolding rest_from all_fine signed from_bar going owed
+walked b o n t [] sg h b3 o3 f e = refl
+walked b o n t (x ∷ es) sg h b3 o3 f e =
+    go (cases_lt t (lasts x)) (λ m eq. walked b ((o + lasts x) % b) m (t - lasts x) es (drop 1 sg) (next_below b (o + lasts x) (omega arith)) b3 (next_three b (o + lasts x) b3 (omega (arith, g.1))) (and_parts _ _ f).1 eq)
   where
     g : (0 < lasts x) × (lasts x % 3 ≡ 0)
     g = fine_lasts x (and_parts _ _ f).0
-
-    pr : Printed k b o st x es
-    pr = print_event k b o st x es (and_parts _ _ f).0
 
     cs : List Chunk
     cs = chunks (suc (lasts x)) b o (lasts x)
 
     zs : List Symbol
-    zs = print k b ((o + lasts x) % b) (holding k cs pr.1) es
+    zs = signed b ((o + lasts x) % b) es (drop 1 sg)
 
-    over : lasts x ≤ t → ((m : ℕ) → suc m * b ≡ (o + lasts x) % b + (t - lasts x) → from_bar (suc m) zs ≡ rest_from k b (t - lasts x) 0 (key k) es) →
-        (m : ℕ) → m * b ≡ (o + lasts x) % b + (t - lasts x) → (has_line cs ≡ true) ⊎ (m ≡ suc n) → from_bar m zs ≡ rest_from k b (t - lasts x) 0 (key k) es
-    over le ih (suc m) eq w = ih m eq
-    over le ih zero eq (inr w) = absurd (omega arith)
-    over le ih zero eq (inl w) =
+    Less : Type 0
+    Less = (m : ℕ) → suc m * b ≡ (o + lasts x) % b + (t - lasts x) → from_bar (suc m) zs ≡ rest_from b (t - lasts x) 0 es (drop 1 sg)
+
+    over : Less → (m : ℕ) → m * b ≡ (o + lasts x) % b + (t - lasts x) → from_bar m zs ≡ rest_from b (t - lasts x) 0 es (drop 1 sg)
+    over ih (suc m) eq = ih m eq
+    over ih zero eq =
         let z : (o + lasts x) % b ≡ 0 = omega arith in
         let y : t - lasts x ≡ 0 = omega arith in
-        ap₂ (λ (i : ℕ) (c : Bool). print k b i (pick c (key k) pr.1) es) z w
-        ∙ sym (rest_none k b 0 (key k) es (and_parts _ _ f).1)
-        ∙ ap (λ (i : ℕ). rest_from k b i 0 (key k) es) (sym y)
+        ap (λ (i : ℕ). signed b i es (drop 1 sg)) z
+        ∙ sym (rest_none b 0 es (drop 1 sg) (omega arith) (and_parts _ _ f).1)
+        ∙ ap (λ (i : ℕ). rest_from b i 0 es (drop 1 sg)) (sym y)
 
-    go : (t < lasts x) ⊎ (lasts x ≤ t) → ((m : ℕ) → suc m * b ≡ (o + lasts x) % b + (t - lasts x) → from_bar (suc m) zs ≡ rest_from k b (t - lasts x) 0 (key k) es) →
-        from_bar (suc n) (drawn (place_of x) pr.0 cs ++ zs) ≡ pick (leb (lasts x) t) (rest_from k b (t - lasts x) 0 (key k) es) (pick (eqb t 0) (print k b 0 (key k) (x ∷ es)) (owed k b 0 (key k) (place_of x) 0 (lasts x - t) es))
+    go : (t < lasts x) ⊎ (lasts x ≤ t) → Less →
+        from_bar (suc n) (drawn (place_of x) (get_or sg 0 0) cs ++ zs)
+        ≡ pick (leb (lasts x) t) (rest_from b (t - lasts x) 0 es (drop 1 sg)) (owed b 0 (place_of x) (pick (eqb t 0) (get_or sg 0 0) 0) (lasts x - t) es (drop 1 sg))
     go (inr le) ih =
-        let r = passed (suc (lasts x)) n (place_of x) pr.0 b o (lasts x) t zs (omega arith) h b3 o3 e le in
-        r.2 ∙ over le ih r.0 r.1 r.3 ∙ sym (pick_true _ _ _ (le-leb (lasts x) t le))
+        let r = passed (suc (lasts x)) n (place_of x) (get_or sg 0 0) b o (lasts x) t zs (omega arith) h b3 o3 e le in
+        r.2 ∙ over ih r.0 r.1 ∙ sym (pick_true _ _ _ (le-leb (lasts x) t le))
     go (inl lt) ih =
-        let r = reaches (suc (lasts x)) n (place_of x) pr.0 b o (lasts x) t zs (omega arith) h b3 o3 e lt in
-        r.0 ∙ last r
-        ∙ sym (pick_false _ _ _ (lt-leb (lasts x) t lt) ∙ pick_false _ _ _ (ne_eqb t 0 (λ z. omega arith)) ∙ pick_false _ _ _ (ne_eqb 0 b (λ z. omega arith)))
-      where
-        last : Reaches (suc (lasts x)) n (place_of x) pr.0 b o (lasts x) t zs →
-            drawn (place_of x) 0 (chunks (suc (lasts x - t)) b 0 (lasts x - t)) ++ zs ≡ going k b 0 (key k) (place_of x) 0 (lasts x - t) es
-        last r =
-            ap₂ (λ (i : ℕ) (st : ℕ → ℕ). drawn (place_of x) 0 (chunks (suc (lasts x - t)) b 0 (lasts x - t)) ++ print k b i st es) r.2
-            (pick_true _ _ _ r.1 ∙ sym (pick_same (has_line (chunks (suc (lasts x - t)) b 0 (lasts x - t))) (key k)))
+        let r = reaches (suc (lasts x)) n (place_of x) (get_or sg 0 0) b o (lasts x) t zs (omega arith) h b3 o3 e lt in
+        let w : pick (eqb t 0) (get_or sg 0 0) 0 ≡ 0 = pick_false _ _ _ (ne_eqb t 0 (λ z. omega arith)) in
+        r.0
+        ∙ ap (λ (i : ℕ). drawn (place_of x) 0 (chunks (suc (lasts x - t)) b 0 (lasts x - t)) ++ signed b i es (drop 1 sg)) r.1
+        ∙ sym (pick_false _ _ _ (lt-leb (lasts x) t lt) ∙ ap (λ (s : ℕ). owed b 0 (place_of x) s (lasts x - t) es (drop 1 sg)) w ∙ pick_false _ _ _ (ne_eqb 0 b (λ z. omega arith)))
 
-pub from_bar_walks : (k b n : ℕ) (es : List Event) → 0 < b → b % 3 ≡ 0 → all_fine es ≡ true → from_bar n (printed k b es) ≡ rest_from k b (n * b) 0 (key k) es
+pub from_bar_walks : (b n : ℕ) (es : List Event) (sg : List ℕ) → 0 < b → b % 3 ≡ 0 → all_fine es ≡ true → from_bar n (signed b 0 es sg) ≡ rest_from b (n * b) 0 es sg
 unfolding from_bar
-from_bar_walks k b zero es h b3 f = sym (ap (λ (t : ℕ). rest_from k b t 0 (key k) es) (let z : 0 * b ≡ 0 = omega arith in z) ∙ rest_none k b 0 (key k) es f)
-from_bar_walks k b (suc n) es h b3 f = walked k b 0 n (suc n * b) (key k) es h b3 refl f (omega arith)
+from_bar_walks b zero es sg h b3 f = sym (ap (λ (t : ℕ). rest_from b t 0 es sg) (let z : 0 * b ≡ 0 = omega arith in z) ∙ rest_none b 0 es sg h f)
+from_bar_walks b (suc n) es sg h b3 f = walked b 0 n (suc n * b) es sg h b3 refl f (omega arith)
+
+-- events that end in the ticks that are passed over are taken away, whatever they are
+pub rest_behind : (b t o : ℕ) (es gs : List Event) (sg : List ℕ) → total es ≤ t → rest_from b t o (es ++ gs) sg ≡ rest_from b (t - total es) o gs (drop (length es) sg)
+unfolding rest_from total
+rest_behind b t o [] gs sg l = let z : t ≡ t - 0 = omega arith in ap (λ (x : ℕ). rest_from b x o gs sg) z
+rest_behind b t o (e ∷ es) gs sg l =
+    let m : t - lasts e - total es ≡ t - (lasts e + total es) = omega arith in
+    let n : 1 + length es ≡ length (e ∷ es) = omega arith in
+    pick_true _ _ _ (le-leb (lasts e) t (omega arith))
+    ∙ rest_behind b (t - lasts e) o es gs (drop 1 sg) (omega arith)
+    ∙ ap₂ (λ (x : ℕ) (ss : List ℕ). rest_from b x o gs ss) m (drop-drop (length es) 1 sg ∙ ap (λ (i : ℕ). drop i sg) n)
+
+pub rest_passed : (b t o j : ℕ) (es : List Event) (sg : List ℕ) → j ≤ length es → total (take j es) ≤ t → rest_from b t o es sg ≡ rest_from b (t - total (take j es)) o (drop j es) (drop j sg)
+rest_passed b t o j es sg h l =
+    ap (λ (xs : List Event). rest_from b t o xs sg) (sym (take-append-drop j es))
+    ∙ rest_behind b t o (take j es) (drop j es) sg l
+    ∙ ap (λ (i : ℕ). rest_from b (t - total (take j es)) o (drop j es) (drop i sg)) (length-take-le j es h)

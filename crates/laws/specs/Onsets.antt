@@ -30,9 +30,15 @@ onsets k b n o st (e ∷ es) =
 abbrev pub onsets_of : ℕ → ℕ → List Event → List Onset
 onsets_of k b es = onsets k b 0 0 (key k) es
 
--- the bars alone
+-- as they lie in three rows of words
 abbrev pub bars_of : ℕ → ℕ → List Event → List ℕ
 bars_of k b es = map (λ x. x.bar) (onsets_of k b es)
+
+abbrev pub ticks_of : ℕ → ℕ → List Event → List ℕ
+ticks_of k b es = map (λ x. x.tick) (onsets_of k b es)
+
+abbrev pub signs_of : ℕ → ℕ → List Event → List ℕ
+signs_of k b es = map (λ x. x.sign) (onsets_of k b es)
 
 -- WHAT A CHANGE REACHES. Where events begin depends on no event behind them.
 abbrev pub OnsetsStay : Type 0

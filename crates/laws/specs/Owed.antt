@@ -1,7 +1,7 @@
 -- What is still to be printed in the middle of an event, and of events of which some ticks are passed over. Assumes nothing: these are definitions.
-use Rattle.std.specs.Prelude.{ℕ, suc, ◌+◌, ◌-◌, ◌%◌, Bool, List, [], ◌∷◌, ◌++◌, ◌==◌, nat_le}
+use Rattle.std.specs.Prelude.{ℕ, suc, ◌+◌, ◌-◌, ◌%◌, Bool, List, [], ◌∷◌, ◌++◌, drop, ◌==◌, nat_le, slice_index}
 use Rattle.score.specs.Music.{pick, Event, note, silence, lasts}
-use Rattle.score.specs.Print.{Symbol, bar, head, rest, key, Chunk, value, line, chunks, has_line, has_value, print}
+use Rattle.score.specs.Print.{Symbol, bar, head, rest, key, Chunk, value, line, chunks, has_line, has_value}
 
 -- the sign of a note that begins, and what holds behind chunks if st held before them: the key, if a bar line was among them
 abbrev pub sign_of : (ℕ → ℕ) → ℕ → ℕ → ℕ
@@ -20,22 +20,26 @@ drawn p s [] = []
 drawn p s (line ∷ cs) = bar ∷ drawn p s cs
 drawn p s (value v ∷ cs) = one p s v (has_value cs) ∷ drawn p 0 cs
 
--- d ticks of an event at place p, from tick o of a bar on, and the events behind it
-unfoldable pub going : ℕ → ℕ → ℕ → (ℕ → ℕ) → ℕ → ℕ → ℕ → List Event → List Symbol
-going k b o st p s d es =
-    drawn p s (chunks (suc d) b o d) ++ print k b ((o + d) % b) (holding k (chunks (suc d) b o d) st) es
-
--- the same, where the bar may be full and its line not yet printed
-unfoldable pub owed : ℕ → ℕ → ℕ → (ℕ → ℕ) → ℕ → ℕ → ℕ → List Event → List Symbol
-owed k b o st p s d es = pick (o == b) (bar ∷ going k b 0 (key k) p s d es) (going k b o st p s d es)
-
 unfoldable pub place_of : Event → ℕ
 place_of (note p a d) = p
 place_of (silence d) = 70
 
--- what is printed of events if t ticks are passed over first
-unfoldable pub rest_from : ℕ → ℕ → ℕ → ℕ → (ℕ → ℕ) → List Event → List Symbol
-rest_from k b t o st [] = []
-rest_from k b t o st (e ∷ es) =
-    pick (nat_le (lasts e) t) (rest_from k b (t - lasts e) o st es)
-    (pick (t == 0) (print k b o st (e ∷ es)) (owed k b o st (place_of e) 0 (lasts e - t) es))
+-- events from tick o of a bar on, each with the sign that a row of signs gives it
+unfoldable pub signed : ℕ → ℕ → List Event → List ℕ → List Symbol
+signed b o [] sg = []
+signed b o (e ∷ es) sg = drawn (place_of e) (slice_index sg 0) (chunks (suc (lasts e)) b o (lasts e)) ++ signed b ((o + lasts e) % b) es (drop 1 sg)
+
+-- d ticks of an event at place p, from tick o of a bar on, and the events behind it
+unfoldable pub going : ℕ → ℕ → ℕ → ℕ → ℕ → List Event → List ℕ → List Symbol
+going b o p s d es sg = drawn p s (chunks (suc d) b o d) ++ signed b ((o + d) % b) es sg
+
+-- the same, where the bar may be full and its line not yet printed
+unfoldable pub owed : ℕ → ℕ → ℕ → ℕ → ℕ → List Event → List ℕ → List Symbol
+owed b o p s d es sg = pick (o == b) (bar ∷ going b 0 p s d es sg) (going b o p s d es sg)
+
+-- what is printed of events if t ticks are passed over first: an event that has begun before has no sign
+unfoldable pub rest_from : ℕ → ℕ → ℕ → List Event → List ℕ → List Symbol
+rest_from b t o [] sg = []
+rest_from b t o (e ∷ es) sg =
+    pick (nat_le (lasts e) t) (rest_from b (t - lasts e) o es (drop 1 sg))
+    (owed b o (place_of e) (pick (t == 0) (slice_index sg 0) 0) (lasts e - t) es (drop 1 sg))

@@ -7,7 +7,7 @@ use Rattle.score.specs.Calls.{Score}
 use Rattle.score.proofs.Picks.{pick_false}
 use Rattle.laws.specs.Rows.{event_of, voice_of}
 use Rattle.rows.specs.Rows.{stands, alters}
-use Rattle.memory.specs.Store.{flat, counts, ticks, padded, laid, stored, dealt, parted}
+use Rattle.memory.specs.Store.{spread, flat, counts, ticks, padded, laid, stored, dealt, parted}
 use Rattle.memory.specs.Owed.{ScoreBack}
 use Rattle.memory.proofs.Scores.{fine_place, fine_flat, length_flat}
 
@@ -27,7 +27,7 @@ rows_back (e ∷ es) ps qs rs h =
     let b = rows_back es ps qs rs p.1 in cc
 
 pub dealt_back : (s : Score) (es : List Event) → dealt (counts s) (flat s ++ es) ≡ s
-unfolding dealt flat
+unfolding dealt spread
 dealt_back [] es = refl
 dealt_back (v ∷ vs) es = rw (append_assoc v (flat vs) es, take_at v (flat vs ++ es) (length v) refl, drop_at v (flat vs ++ es) (length v) refl, dealt_back vs es)
 
@@ -69,6 +69,10 @@ rows_padded n es ok = rows_back es _ _ _ ok
 
 -- ---- of what is stored
 
+-- a region of n words has so many
+pub length_region : {X : Type 0} (f : X → ℕ) (n : ℕ) (xs : List X) → length xs ≤ n → length (padded n (map f xs)) ≡ n
+length_region f n xs le = length_padded n (map f xs) (simp length-map le)
+
 -- how long its parts are
 module _ {k n : ℕ} (s : Score) (so_many : length s ≡ k) (le : length (flat s) ≤ n) where
   pub length_counts : length (counts s) ≡ k
@@ -77,17 +81,14 @@ module _ {k n : ℕ} (s : Score) (so_many : length s ≡ k) (le : length (flat s
   pub length_ticks : length (ticks s) ≡ k
   length_ticks = length-map s Rattle.score.specs.Music.total ∙ so_many
 
-  pub length_region : (f : Event → ℕ) → length (padded n (map f (flat s))) ≡ n
-  length_region f = length_padded n (map f (flat s)) (simp length-map le)
-
   pub parted_back : (K : List ℕ) → all_fine (flat s) ≡ true → parted k n (laid n s K) ≡ s
   parted_back K ok =
       parted_is k n (counts s) (ticks s) (padded n (map stands (flat s))) (padded n (map alters (flat s))) _
-      length_counts length_ticks (length_region stands) (length_region alters) (padded n (map lasts (flat s))) K refl (length_region lasts)
+      length_counts length_ticks (length_region stands n (flat s) le) (length_region alters n (flat s) le) (padded n (map lasts (flat s))) K refl (length_region lasts n (flat s) le)
       ∙ (ap (dealt (counts s)) (rows_padded n (flat s) ok) ∙ dealt_back s (over n (flat s)))
 
 pub score_back : ScoreBack
 unfolding stored
 score_back l y s k =
     let le : length (flat s) ≤ l.events = rw (length_flat s) k.fitting in
-    parted_back s k.so_many le [] (fine_flat s k.fines)
+    parted_back s k.so_many le _ (fine_flat s k.fines)

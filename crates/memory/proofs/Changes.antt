@@ -21,6 +21,42 @@ split_at xs j d h =
     let e : j + 1 ≡ suc j = omega arith in
     sym (take-append-drop j xs) ∙ ap (λ y. take j xs ++ y) (drop_more xs j d h ∙ ap (λ k. get_or xs j d ∷ drop k xs) e)
 
+-- one comes in, goes out or becomes another in the middle one of three rows
+module _ {X : Type 0} (A V C : List X) (i j : ℕ) (ej : j ≡ length A + i) where
+  pub inserted_among : (x : X) → i ≤ length V → insert (A ++ (V ++ C)) j x ≡ A ++ (insert V i x ++ C)
+  inserted_among x li =
+      let lp : length (A ++ take i V) ≡ j = length-append A (take i V) ∙ omega (arith, length-take-le i V li) in
+      let b : A ++ (V ++ C) ≡ (A ++ take i V) ++ (drop i V ++ C) = ap (λ y. A ++ (y ++ C)) (sym (take-append-drop i V)) ∙ sym (regroup A (take i V) (drop i V) C) in
+      let t = ap (λ y. take j y) b ∙ take_at (A ++ take i V) (drop i V ++ C) j lp in
+      let d = ap (λ y. drop j y) b ∙ drop_at (A ++ take i V) (drop i V ++ C) j lp in
+      let g : A ++ ((take i V ++ (x ∷ drop i V)) ++ C) ≡ (A ++ take i V) ++ (x ∷ (drop i V ++ C)) = simp append_assoc in
+      sym (g ∙ (cc))
+    where
+      regroup : (a p q z : List X) → (a ++ p) ++ (q ++ z) ≡ a ++ ((p ++ q) ++ z)
+      regroup a p q z = simp append_assoc
+
+  pub removed_among : (x : X) → i < length V → remove (A ++ (V ++ C)) j ≡ A ++ (remove V i ++ C)
+  removed_among old li =
+      let x : X = get_or V i old in
+      let lt = length-take-le i V (omega arith) in
+      let lp : length (A ++ take i V) ≡ j = length-append A (take i V) ∙ omega arith in
+      let lq : length ((A ++ take i V) ++ (x ∷ [])) ≡ suc j = length_push (A ++ take i V) x ∙ omega arith in
+      let b : A ++ (V ++ C) ≡ (A ++ take i V) ++ (x ∷ (drop (suc i) V ++ C)) = ap (λ y. A ++ (y ++ C)) (split_at V i old li) ∙ sym (regroup A (take i V) (drop (suc i) V) C x) in
+      let b2 : A ++ (V ++ C) ≡ ((A ++ take i V) ++ (x ∷ [])) ++ (drop (suc i) V ++ C) = b ∙ sym (append_assoc (A ++ take i V) (x ∷ []) (drop (suc i) V ++ C)) in
+      let t = ap (λ y. take j y) b ∙ take_at (A ++ take i V) _ j lp in
+      let d = ap (λ y. drop (suc j) y) b2 ∙ drop_at ((A ++ take i V) ++ (x ∷ [])) (drop (suc i) V ++ C) (suc j) lq in
+      let g : A ++ ((take i V ++ drop (suc i) V) ++ C) ≡ (A ++ take i V) ++ (drop (suc i) V ++ C) = simp append_assoc in
+      sym (g ∙ (cc))
+    where
+      regroup : (a p q z : List X) (x : X) → (a ++ p) ++ (x ∷ (q ++ z)) ≡ a ++ ((p ++ (x ∷ q)) ++ z)
+      regroup a p q z x = simp append_assoc
+
+  pub set_among : (x : X) → i < length V → set (A ++ (V ++ C)) j x ≡ A ++ (set V i x ++ C)
+  set_among x li =
+      let z : j - length A ≡ i = omega arith in
+      set-append_right A (V ++ C) (length A) j x refl (omega arith)
+      ∙ (ap (λ k. A ++ set (V ++ C) k x) z ∙ ap (λ y. A ++ y) (set-append_left V C i x li))
+
 pub total_put : (V : List Event) (i : ℕ) (e : Event) → total (insert V i e) ≡ total V + lasts e
 unfolding total
 total_put V i e =
@@ -65,7 +101,7 @@ short_set (y ∷ ys) (suc v) x h k =
     let p = and_parts (ltb (total y) ticks_end) (none_too_long ys) k in
     ap (λ b. b && none_too_long (set ys v x)) p.0 ∙ short_set ys v x (omega arith) p.1
 
--- the others stay as they are, and so does where their events begin on paper
+-- the others stay as they are, and so does what is kept of them
 pub others_unreached : OthersUnreached
 others_unreached y s v u V ne = ap (onsets_of y.in_key y.bar_long) (get_or-set_other s v u V [] ne)
 
@@ -87,19 +123,10 @@ module _ (s : Score) (v i : ℕ) (e : Event) (lv : v < length s) (li : i ≤ len
   pub flat_put : flat (changed s (put v i e)) ≡ insert (flat s) (all_events (take v s) + i) e
   unfolding changed
   flat_put =
-      let A : List Event = flat (take v s) in
-      let V : List Event = voice s v in
-      let C : List Event = flat (drop (suc v) s) in
-      let j : ℕ = all_events (take v s) + i in
-      let lp : length (A ++ take i V) ≡ j = length-append A (take i V) ∙ omega (arith, length_flat (take v s), length-take-le i V li) in
-      let b : (A ++ take i V) ++ (drop i V ++ C) ≡ flat s = regroup A (take i V) (drop i V) C ∙ (ap (λ y. A ++ (y ++ C)) (take-append-drop i V) ∙ sym (flat_split s v lv)) in
-      let t = ap (λ y. take j y) (sym b) ∙ take_at (A ++ take i V) (drop i V ++ C) j lp in
-      let d = ap (λ y. drop j y) (sym b) ∙ drop_at (A ++ take i V) (drop i V ++ C) j lp in
-      let g : A ++ ((take i V ++ (e ∷ drop i V)) ++ C) ≡ (A ++ take i V) ++ (e ∷ (drop i V ++ C)) = simp append_assoc in
-      flat_set s v _ lv ∙ (g ∙ (cc))
-    where
-      regroup : (a p q z : List Event) → (a ++ p) ++ (q ++ z) ≡ a ++ ((p ++ q) ++ z)
-      regroup a p q z = simp append_assoc
+      let la = length_flat (take v s) in
+      flat_set s v _ lv
+      ∙ sym (ap (λ y. insert y (all_events (take v s) + i) e) (flat_split s v lv)
+      ∙ inserted_among (flat (take v s)) (voice s v) (flat (drop (suc v) s)) i (all_events (take v s) + i) (omega arith) e li)
 
 -- ---- a cut
 
@@ -124,23 +151,10 @@ module _ (s : Score) (v i : ℕ) (old : Event) (lv : v < length s) (li : i < len
   pub flat_cut : flat (changed s (cut v i)) ≡ remove (flat s) (all_events (take v s) + i)
   unfolding changed
   flat_cut =
-      let A : List Event = flat (take v s) in
-      let V : List Event = voice s v in
-      let C : List Event = flat (drop (suc v) s) in
-      let j : ℕ = all_events (take v s) + i in
-      let x : Event = get_or V i old in
-      let lt = length-take-le i V (omega arith) in
-      let lp : length (A ++ take i V) ≡ j = length-append A (take i V) ∙ omega (arith, length_flat (take v s)) in
-      let lq : length ((A ++ take i V) ++ (x ∷ [])) ≡ suc j = length_push (A ++ take i V) x ∙ omega arith in
-      let b : (A ++ take i V) ++ (x ∷ (drop (suc i) V ++ C)) ≡ flat s = regroup A (take i V) (drop (suc i) V) C x ∙ (ap (λ y. A ++ (y ++ C)) (sym (split_at V i old li)) ∙ sym (flat_split s v lv)) in
-      let b2 : ((A ++ take i V) ++ (x ∷ [])) ++ (drop (suc i) V ++ C) ≡ flat s = append_assoc (A ++ take i V) (x ∷ []) (drop (suc i) V ++ C) ∙ b in
-      let t = ap (λ y. take j y) (sym b) ∙ take_at (A ++ take i V) _ j lp in
-      let d = ap (λ y. drop (suc j) y) (sym b2) ∙ drop_at ((A ++ take i V) ++ (x ∷ [])) (drop (suc i) V ++ C) (suc j) lq in
-      let g : A ++ ((take i V ++ drop (suc i) V) ++ C) ≡ (A ++ take i V) ++ (drop (suc i) V ++ C) = simp append_assoc in
-      flat_set s v _ lv ∙ (g ∙ (cc))
-    where
-      regroup : (a p q z : List Event) (x : Event) → (a ++ p) ++ (x ∷ (q ++ z)) ≡ a ++ ((p ++ (x ∷ q)) ++ z)
-      regroup a p q z x = simp append_assoc
+      let la = length_flat (take v s) in
+      flat_set s v _ lv
+      ∙ sym (ap (λ y. remove y (all_events (take v s) + i)) (flat_split s v lv)
+      ∙ removed_among (flat (take v s)) (voice s v) (flat (drop (suc v) s)) i (all_events (take v s) + i) (omega arith) old li)
 
 -- ---- a change
 
@@ -168,13 +182,7 @@ module _ (s : Score) (v i : ℕ) (e old : Event) (lv : v < length s) (li : i < l
   pub flat_change : flat (changed s (change v i e)) ≡ set (flat s) (all_events (take v s) + i) e
   unfolding changed
   flat_change =
-      let A : List Event = flat (take v s) in
-      let V : List Event = voice s v in
-      let C : List Event = flat (drop (suc v) s) in
-      let j : ℕ = all_events (take v s) + i in
       let la = length_flat (take v s) in
-      let z : j - length A ≡ i = omega arith in
       flat_set s v _ lv
-      ∙ sym (ap (λ y. set y j e) (flat_split s v lv)
-      ∙ (set-append_right A (V ++ C) (length A) j e refl (omega arith)
-      ∙ (ap (λ k. A ++ set (V ++ C) k e) z ∙ ap (λ y. A ++ y) (set-append_left V C i e li))))
+      ∙ sym (ap (λ y. set y (all_events (take v s) + i) e) (flat_split s v lv)
+      ∙ set_among (flat (take v s)) (voice s v) (flat (drop (suc v) s)) i (all_events (take v s) + i) (omega arith) e li)

@@ -1,18 +1,21 @@
 -- What words that hold a score have where. Assumes nothing.
-use Rattle.std.proofs.Common.{◌≡◌, ℕ, suc, ◌+◌, ◌-◌, ◌*◌, ◌<◌, ◌≤◌, true, List, [], ◌∷◌, ◌++◌, map, length, get_or, take, drop, replicate, sum_by, sum, sym, refl, ap, ◌∙◌, subst, arith}
+use Rattle.std.proofs.Common.{◌≡◌, ℕ, suc, ◌+◌, ◌-◌, ◌*◌, ◌<◌, ◌≤◌, true, List, [], ◌∷◌, ◌++◌, map, length, get_or, take, drop, replicate, sum_by, sum, sym, refl, ap, ◌∙◌, subst, ap₂, arith}
 use Rattle.std.specs.List.{between}
 use Rattle.std.proofs.lemmas.List.{append_assoc, append-nil, length-map, map-append, take-map, get_or-map, get_or-drop, get_or_append_left, get_or-append_right, take-append-le, take_all, take_at, drop_at, drop-drop}
 use Rattle.std.proofs.lemmas.List.Sums.{sum-map, sum_by-cons, sum_by-take-le}
 use Rattle.score.specs.Music.{Event, silence, lasts, total, fine, all_fine, places, alterations, length_end}
 use Rattle.score.specs.Calls.{Limits, Layout, Score, voice, all_events}
 use Rattle.score.specs.Promise.{GoodLimits, GoodLayout}
+use Rattle.score.specs.Print.{key}
 use Rattle.laws.specs.Rows.{event_of, voice_of}
+use Rattle.laws.specs.Onsets.{Onset, onsets_of}
+use Rattle.laws.proofs.Onsets.{length_onsets}
 use Rattle.rows.specs.Rows.{stands, alters}
-use Rattle.memory.specs.Store.{flat, counts, ticks, padded, laid, stored, voices_in, limit_in, places_from, alterations_from, lengths_from, score_of, KeptIn, Kept}
-use Rattle.memory.specs.Words.{Holds, events_at, Spans}
-use Rattle.memory.proofs.Scores.{fine_fields, fine_at, fine_flat, fines_voice, length_flat, voice_le, flat_split}
+use Rattle.memory.specs.Store.{spread, flat, all_onsets, counts, ticks, padded, laid, onset_rows, no_marks, stored, voices_in, limit_in, places_from, alterations_from, lengths_from, bars_from, beats_from, signs_from, layout_of, score_of, KeptIn, Kept}
+use Rattle.memory.specs.Words.{Holds, onsets_in, events_at, KeptAt, Spans}
+use Rattle.memory.proofs.Scores.{fine_fields, fine_at, fine_flat, fines_voice, length_spread, length_flat, voice_le, spread_split}
 use Rattle.memory.proofs.Back.{event_back, rows_back, to_places, to_alterations, to_lengths, length_counts, length_ticks, length_region, score_back}
-use Rattle.memory.proofs.Stored.{length_stored}
+use Rattle.memory.proofs.Stored.{length_all_onsets, length_stored}
 
 pub holds_stored : (l : Limits) (y : Layout) (s : Score) → GoodLimits l → GoodLayout y → Kept l s → Holds (stored l y s)
 unfolding stored
@@ -40,36 +43,43 @@ events_take_le s v = let a = events_sum (take v s) in let b = events_sum s in om
 
 -- ---- a region of n words
 
--- the part of it that is a voice's
-region_part : (f : Event → ℕ) (n : ℕ) (s : Score) (v : ℕ) (B : List ℕ) → v < length s → take (length (voice s v)) (drop (all_events (take v s)) (padded n (map f (flat s)) ++ B)) ≡ map f (voice s v)
+-- a part of it
+pub part_padded : {X : Type 0} (f : X → ℕ) (n : ℕ) (A V C : List X) (B : List ℕ) → take (length V) (drop (length A) (padded n (map f (A ++ (V ++ C))) ++ B)) ≡ map f V
 unfolding padded
-region_part f n s v B h =
-    let A : List ℕ = map f (flat (take v s)) in
-    let V : List ℕ = map f (voice s v) in
-    let C : List ℕ = map f (flat (drop (suc v) s)) in
-    let Z : List ℕ = replicate (n - length (map f (flat s))) 0 in
-    let e : map f (flat s) ≡ A ++ (V ++ C) = ap (map f) (flat_split s v h) ∙ (map-append f (flat (take v s)) _ ∙ ap (λ w. A ++ w) (map-append f (voice s v) _)) in
-    let a : length A ≡ all_events (take v s) = length-map (flat (take v s)) f ∙ length_flat (take v s) in
-    let b : length V ≡ length (voice s v) = length-map (voice s v) f in
-    let g : ((A ++ (V ++ C)) ++ Z) ++ B ≡ A ++ (V ++ (C ++ (Z ++ B))) = simp append_assoc in
-    let d : drop (all_events (take v s)) ((map f (flat s) ++ Z) ++ B) ≡ V ++ (C ++ (Z ++ B)) =
-    ap (λ w. drop (all_events (take v s)) ((w ++ Z) ++ B)) e ∙ (ap (λ w. drop (all_events (take v s)) w) g ∙ drop_at A _ _ a) in
-    ap (λ w. take (length (voice s v)) w) d ∙ take_at V _ _ b
+part_padded f n A V C B =
+    let Z : List ℕ = replicate (n - length (map f (A ++ (V ++ C)))) 0 in
+    let e : map f (A ++ (V ++ C)) ≡ map f A ++ (map f V ++ map f C) = map-append f A (V ++ C) ∙ ap (λ w. map f A ++ w) (map-append f V C) in
+    let r : ((map f A ++ (map f V ++ map f C)) ++ Z) ++ B ≡ map f A ++ (map f V ++ (map f C ++ (Z ++ B))) = simp append_assoc in
+    let d : drop (length A) ((map f (A ++ (V ++ C)) ++ Z) ++ B) ≡ map f V ++ (map f C ++ (Z ++ B)) =
+    ap (λ w. drop (length A) ((w ++ Z) ++ B)) e ∙ (ap (λ w. drop (length A) w) r ∙ drop_at (map f A) _ (length A) (length-map A f)) in
+    ap (λ w. take (length V) w) d ∙ take_at (map f V) _ (length V) (length-map V f)
 
 -- one word of it
-region_word : (f : Event → ℕ) (n : ℕ) (es : List Event) (B : List ℕ) (i : ℕ) (d : Event) → i < length es → get_or (padded n (map f es) ++ B) i 0 ≡ f (get_or es i d)
+pub region_word : {X : Type 0} (f : X → ℕ) (n : ℕ) (xs : List X) (B : List ℕ) (i : ℕ) (d : X) → i < length xs → get_or (padded n (map f xs) ++ B) i 0 ≡ f (get_or xs i d)
 unfolding padded
-region_word f n es B i d lt =
-    let l : i < length (map f es) = rw (length-map es f) lt in
-    ap (λ x. get_or x i 0) (append_assoc (map f es) _ B) ∙ (get_or_append_left (map f es) _ 0 i l ∙ get_or-map f es i d 0 lt)
+region_word f n xs B i d lt =
+    let l : i < length (map f xs) = rw (length-map xs f) lt in
+    ap (λ x. get_or x i 0) (append_assoc (map f xs) _ B) ∙ (get_or_append_left (map f xs) _ 0 i l ∙ get_or-map f xs i d 0 lt)
 
-flat_at : (s : Score) (v i : ℕ) (d : Event) → v < length s → i < length (voice s v) → get_or (flat s) (all_events (take v s) + i) d ≡ get_or (voice s v) i d
-flat_at s v i d lt li =
-    let e = length_flat (take v s) in
-    let z : all_events (take v s) + i - length (flat (take v s)) ≡ i = omega arith in
-    ap (λ x. get_or x (all_events (take v s) + i) d) (flat_split s v lt)
-    ∙ (get_or-append_right (flat (take v s)) _ (length (flat (take v s))) (all_events (take v s) + i) d refl (omega arith)
-    ∙ (ap (λ j. get_or (voice s v ++ flat (drop (suc v) s)) j d) z ∙ get_or_append_left (voice s v) _ d i li))
+-- what g has of each voice, one for each of its events
+module _ {X : Type 0} (g : List Event → List X) (each : (v : List Event) → length (g v) ≡ length v) where
+  -- the part of a region that is a voice's
+  region_part : (f : X → ℕ) (n : ℕ) (s : Score) (v : ℕ) (B : List ℕ) → v < length s → take (length (voice s v)) (drop (all_events (take v s)) (padded n (map f (spread g s)) ++ B)) ≡ map f (g (voice s v))
+  region_part f n s v B h =
+      let V : List X = g (voice s v) in
+      let P : List X = spread g (take v s) in
+      let a : length P ≡ all_events (take v s) = length_spread g each (take v s) in
+      ap₂ (λ i k. take i (drop k (padded n (map f (spread g s)) ++ B))) (sym (each (voice s v))) (sym a)
+      ∙ (ap (λ xs. take (length V) (drop (length P) (padded n (map f xs) ++ B))) (spread_split g s v h) ∙ part_padded f n P V (spread g (drop (suc v) s)) B)
+
+  -- what it has of one event
+  spread_at : (s : Score) (v i : ℕ) (d : X) → v < length s → i < length (voice s v) → get_or (spread g s) (all_events (take v s) + i) d ≡ get_or (g (voice s v)) i d
+  spread_at s v i d lt li =
+      let e = length_spread g each (take v s) in
+      let z : all_events (take v s) + i - length (spread g (take v s)) ≡ i = omega arith in
+      ap (λ x. get_or x (all_events (take v s) + i) d) (spread_split g s v lt)
+      ∙ (get_or-append_right (spread g (take v s)) _ (length (spread g (take v s))) (all_events (take v s) + i) d refl (omega arith)
+      ∙ (ap (λ j. get_or (g (voice s v) ++ spread g (drop (suc v) s)) j d) z ∙ get_or_append_left (g (voice s v)) _ d i (omega (arith, each (voice s v)))))
 
 rows_of : (es : List Event) → all_fine es ≡ true → voice_of (map stands es) (map alters es) (map lasts es) ≡ es
 unfolding voice_of
@@ -83,11 +93,15 @@ rows_of es ok =
 -- ---- words
 
 module _ (w : List ℕ) (h : Holds w) where
-  body : drop 4 w ≡ laid (limit_in w) (score_of w) []
+  -- what lies behind the lengths
+  abbrev behind : List ℕ
+  behind = onset_rows (limit_in w) (all_onsets (layout_of w) (score_of w)) (no_marks (limit_in w))
+
+  body : drop 4 w ≡ laid (limit_in w) (score_of w) behind
   unfolding stored
   body = ap (λ x. drop 4 x) h.is
 
-  from_body : (j : ℕ) → drop (4 + j) w ≡ drop j (laid (limit_in w) (score_of w) [])
+  from_body : (j : ℕ) → drop (4 + j) w ≡ drop j (laid (limit_in w) (score_of w) behind)
   from_body j = sym (drop-drop j 4 w) ∙ ap (λ x. drop j x) body
 
   fitting : length (flat (score_of w)) ≤ limit_in w
@@ -100,7 +114,10 @@ module _ (w : List ℕ) (h : Holds w) where
   long_ticks = length_ticks (score_of w) h.kept.so_many fitting
 
   long_region : (f : Event → ℕ) → length (padded (limit_in w) (map f (flat (score_of w)))) ≡ limit_in w
-  long_region = length_region (score_of w) h.kept.so_many fitting
+  long_region f = length_region f (limit_in w) (flat (score_of w)) fitting
+
+  long_onsets : (f : Onset → ℕ) → length (padded (limit_in w) (map f (all_onsets (layout_of w) (score_of w)))) ≡ limit_in w
+  long_onsets f = length_region f (limit_in w) _ (rw (length_all_onsets (layout_of w) (score_of w)) h.kept.fitting)
 
   -- of a voice: how many events there are before it and in it, and how long it is
 
@@ -131,50 +148,97 @@ module _ (w : List ℕ) (h : Holds w) where
       let d : drop (4 + voices_in w) w ≡ ticks (score_of w) ++ _ = from_body (voices_in w) ∙ drop_at (counts (score_of w)) _ (voices_in w) long_counts in
       sym (get_or-drop (4 + voices_in w) w v 0) ∙ (ap (λ x. get_or x v 0) d ∙ (get_or_append_left (ticks (score_of w)) _ 0 v c ∙ get_or-map total (score_of w) v [] 0 c2))
 
-  -- a region of them begins at a word, and has of each event what f has of it
-  abbrev Region : (Event → ℕ) → ℕ → Type 0
-  Region f from = (B : List ℕ) × (drop from w ≡ padded (limit_in w) (map f (flat (score_of w))) ++ B)
+  -- a region of them begins at a word, and has these
+  abbrev Region : List ℕ → ℕ → Type 0
+  Region xs from = (B : List ℕ) × (drop from w ≡ padded (limit_in w) xs ++ B)
+
+  -- of each event what f has of it, and of where it begins
+  abbrev Events : (Event → ℕ) → ℕ → Type 0
+  Events f from = Region (map f (flat (score_of w))) from
+
+  abbrev Onsets : (Onset → ℕ) → ℕ → Type 0
+  Onsets f from = Region (map f (all_onsets (layout_of w) (score_of w))) from
 
   -- reached from the words behind the header
-  reach : (j : ℕ) (f : Event → ℕ) (B : List ℕ) (from : ℕ) → from ≡ 4 + j → drop j (laid (limit_in w) (score_of w) []) ≡ padded (limit_in w) (map f (flat (score_of w))) ++ B → Region f from
-  reach j f B from e d = (B, ap (λ i. drop i w) e ∙ (from_body j ∙ d))
+  reach : (j : ℕ) (xs B : List ℕ) (from : ℕ) → from ≡ 4 + j → drop j (laid (limit_in w) (score_of w) behind) ≡ padded (limit_in w) xs ++ B → Region xs from
+  reach j xs B from e d = (B, ap (λ i. drop i w) e ∙ (from_body j ∙ d))
 
-  pub places_region : Region stands (places_from w)
+  -- what lies behind a region
+  past : (xs B : List ℕ) (from : ℕ) → drop from w ≡ padded (limit_in w) xs ++ B → length (padded (limit_in w) xs) ≡ limit_in w → drop (from + limit_in w) w ≡ B
+  past xs B from d l = sym (drop-drop (limit_in w) from w) ∙ (ap (drop (limit_in w)) d ∙ drop_at (padded (limit_in w) xs) B (limit_in w) l)
+
+  pub places_region : Events stands (places_from w)
   places_region =
-      reach (2 * voices_in w) stands _ (places_from w) refl
+      reach (2 * voices_in w) _ _ (places_from w) refl
       (to_places (voices_in w) (limit_in w) (counts (score_of w)) (ticks (score_of w)) _ _ _ long_counts long_ticks (long_region stands) (long_region alters))
 
-  pub alterations_region : Region alters (alterations_from w)
+  pub alterations_region : Events alters (alterations_from w)
   alterations_region =
-      reach (2 * voices_in w + limit_in w) alters _ (alterations_from w) (omega arith)
+      reach (2 * voices_in w + limit_in w) _ _ (alterations_from w) (omega arith)
       (to_alterations (voices_in w) (limit_in w) (counts (score_of w)) (ticks (score_of w)) _ _ _ long_counts long_ticks (long_region stands) (long_region alters))
 
-  pub lengths_region : Region lasts (lengths_from w)
-  lengths_region =
-      reach (2 * voices_in w + limit_in w + limit_in w) lasts _ (lengths_from w) (omega arith)
-      (to_lengths (voices_in w) (limit_in w) (counts (score_of w)) (ticks (score_of w)) _ _ _ long_counts long_ticks (long_region stands) (long_region alters))
+  lengths_there : drop (lengths_from w) w ≡ padded (limit_in w) (map lasts (flat (score_of w))) ++ behind
+  lengths_there =
+      let e : lengths_from w ≡ 4 + (2 * voices_in w + limit_in w + limit_in w) = omega arith in
+      ap (λ i. drop i w) e
+      ∙ (from_body (2 * voices_in w + limit_in w + limit_in w)
+      ∙ to_lengths (voices_in w) (limit_in w) (counts (score_of w)) (ticks (score_of w)) _ _ _ long_counts long_ticks (long_region stands) (long_region alters))
+
+  pub lengths_region : Events lasts (lengths_from w)
+  lengths_region = (behind, lengths_there)
+
+  bars_there : drop (bars_from w) w ≡ behind
+  bars_there = past _ behind (lengths_from w) lengths_there (long_region lasts)
+
+  pub bars_region : Onsets (λ x. x.bar) (bars_from w)
+  bars_region = (_, bars_there)
+
+  beats_there : drop (beats_from w) w ≡ padded (limit_in w) (map (λ x. x.tick) (all_onsets (layout_of w) (score_of w))) ++ (padded (limit_in w) (map (λ x. x.sign) (all_onsets (layout_of w) (score_of w))) ++ no_marks (limit_in w))
+  beats_there = past _ _ (bars_from w) bars_there (long_onsets (λ x. x.bar))
+
+  pub beats_region : Onsets (λ x. x.tick) (beats_from w)
+  beats_region = (_, beats_there)
+
+  pub signs_region : Onsets (λ x. x.sign) (signs_from w)
+  signs_region = (no_marks (limit_in w), past _ _ (beats_from w) beats_there (long_onsets (λ x. x.tick)))
 
   -- the words of a voice's events in a region, and those of one event
+  module _ {X : Type 0} (g : List Event → List X) (each : (v : List Event) → length (g v) ≡ length v) (f : X → ℕ) (from v : ℕ) (r : Region (map f (spread g (score_of w))) from) (lv : v < voices_in w) where
+    row_of : take (length (voice (score_of w) v)) (drop (from + all_events (take v (score_of w))) w) ≡ map f (g (voice (score_of w) v))
+    row_of =
+        let c2 : v < length (score_of w) = rw h.kept.so_many lv in
+        ap (λ x. take (length (voice (score_of w) v)) x)
+        (sym (drop-drop (all_events (take v (score_of w))) from w) ∙ ap (λ x. drop (all_events (take v (score_of w))) x) r.1)
+        ∙ region_part g each f (limit_in w) (score_of w) v r.0 c2
 
-  row_at : (f : Event → ℕ) (from v : ℕ) → Region f from → v < voices_in w → take (length (voice (score_of w) v)) (drop (from + all_events (take v (score_of w))) w) ≡ map f (voice (score_of w) v)
-  row_at f from v r lt =
-      let c2 : v < length (score_of w) = rw h.kept.so_many lt in
-      ap (λ x. take (length (voice (score_of w) v)) x)
-      (sym (drop-drop (all_events (take v (score_of w))) from w) ∙ ap (λ x. drop (all_events (take v (score_of w))) x) r.1)
-      ∙ region_part f (limit_in w) (score_of w) v r.0 c2
+    word_of : (i : ℕ) (d : X) → i < length (voice (score_of w) v) → get_or w (from + (all_events (take v (score_of w)) + i)) 0 ≡ f (get_or (g (voice (score_of w) v)) i d)
+    word_of i d li =
+        let c2 : v < length (score_of w) = rw h.kept.so_many lv in
+        let within : all_events (take v (score_of w)) + i < length (spread g (score_of w)) = omega (arith, length_spread g each (score_of w), voice_le (score_of w) v c2) in
+        sym (get_or-drop from w _ 0)
+        ∙ (ap (λ x. get_or x (all_events (take v (score_of w)) + i) 0) r.1
+        ∙ (region_word f (limit_in w) (spread g (score_of w)) r.0 _ d within
+        ∙ ap f (spread_at g each (score_of w) v i d c2 li)))
 
-  pub word_at : (f : Event → ℕ) (from v i : ℕ) (d : Event) → Region f from → v < voices_in w → i < length (voice (score_of w) v) → get_or w (from + (all_events (take v (score_of w)) + i)) 0 ≡ f (get_or (voice (score_of w) v) i d)
-  word_at f from v i d r lv li =
-      let c2 : v < length (score_of w) = rw h.kept.so_many lv in
-      let within : all_events (take v (score_of w)) + i < length (flat (score_of w)) = omega (arith, length_flat (score_of w), voice_le (score_of w) v c2) in
-      sym (get_or-drop from w _ 0)
-      ∙ (ap (λ x. get_or x (all_events (take v (score_of w)) + i) 0) r.1
-      ∙ (region_word f (limit_in w) (flat (score_of w)) r.0 _ d within
-      ∙ ap f (flat_at (score_of w) v i d c2 li)))
+  row_at : (f : Event → ℕ) (from v : ℕ) → Events f from → v < voices_in w → take (length (voice (score_of w) v)) (drop (from + all_events (take v (score_of w))) w) ≡ map f (voice (score_of w) v)
+  row_at = row_of (λ v. v) (λ v. refl)
+
+  pub word_at : (f : Event → ℕ) (from v i : ℕ) (d : Event) → Events f from → v < voices_in w → i < length (voice (score_of w) v) → get_or w (from + (all_events (take v (score_of w)) + i)) 0 ≡ f (get_or (voice (score_of w) v) i d)
+  word_at f from v i d r lv li = word_of (λ v. v) (λ v. refl) f from v r lv i d li
+
+  -- where a voice's events begin on paper
+  each_onset : (v : List Event) → length (onsets_of (layout_of w).in_key (layout_of w).bar_long v) ≡ length v
+  each_onset = length_onsets _ _ 0 0 (key (layout_of w).in_key)
+
+  pub onset_row_at : (f : Onset → ℕ) (from v : ℕ) → Onsets f from → v < voices_in w → take (length (voice (score_of w) v)) (drop (from + all_events (take v (score_of w))) w) ≡ map f (onsets_in w v)
+  onset_row_at = row_of (onsets_of (layout_of w).in_key (layout_of w).bar_long) each_onset
+
+  pub onset_word_at : (f : Onset → ℕ) (from v i : ℕ) (d : Onset) → Onsets f from → v < voices_in w → i < length (voice (score_of w) v) → get_or w (from + (all_events (take v (score_of w)) + i)) 0 ≡ f (get_or (onsets_in w v) i d)
+  onset_word_at f from v i d r lv li = word_of (onsets_of (layout_of w).in_key (layout_of w).bar_long) each_onset f from v r lv i d li
 
   -- and those of an event by its place among all
 
-  flat_word_at : (f : Event → ℕ) (from i : ℕ) (d : Event) → Region f from → i < all_events (score_of w) → get_or w (from + i) 0 ≡ f (get_or (flat (score_of w)) i d)
+  flat_word_at : (f : Event → ℕ) (from i : ℕ) (d : Event) → Events f from → i < all_events (score_of w) → get_or w (from + i) 0 ≡ f (get_or (flat (score_of w)) i d)
   flat_word_at f from i d r li =
       sym (get_or-drop from w i 0) ∙ (ap (λ x. get_or x i 0) r.1 ∙ region_word f (limit_in w) (flat (score_of w)) r.0 i d (rw (length_flat (score_of w)) li))
 
@@ -206,6 +270,15 @@ module _ (w : List ℕ) (h : Holds w) where
       let b = rows_of (voice (score_of w) v) (voice_fine v) in
       ap (λ i. events_at w i count) eb ∙ (ap (λ n. events_at w (all_events (take v (score_of w))) n) ec ∙ (cc))
 
+  pub kept_there : (v begin count : ℕ) → v < voices_in w → begin ≡ all_events (take v (score_of w)) → count ≡ length (voice (score_of w) v) → KeptAt w begin count
+  kept_there v begin count lt eb ec =
+      let e = events_there v begin count lt eb ec in
+      let K : ℕ = (layout_of w).in_key in
+      let B : ℕ = (layout_of w).bar_long in
+      let row : (f : Onset → ℕ) (from : ℕ) → Onsets f from → take count (drop (from + begin) w) ≡ map f (onsets_of K B (events_at w begin count)) =
+      λ f from r. ap₂ (λ i j. take i (drop (from + j) w)) ec eb ∙ (onset_row_at f from v r lt ∙ ap (λ es. map f (onsets_of K B es)) (sym e)) in
+      record { bars = row (λ x. x.bar) (bars_from w) bars_region; beats = row (λ x. x.tick) (beats_from w) beats_region; signs = row (λ x. x.sign) (signs_from w) signs_region }
+
   pub spans : (v begin count : ℕ) → v < voices_in w → begin ≡ all_events (take v (score_of w)) → count ≡ get_or w (4 + v) 0 → Spans w v begin count
   spans v begin count lt eb ec =
       let ec2 : count ≡ length (voice (score_of w) v) = ec ∙ count_at v lt in
@@ -215,6 +288,7 @@ module _ (w : List ℕ) (h : Holds w) where
         counts = ec2;
         within = omega (arith, within_limit v lt);
         events = events_there v begin count lt eb ec2;
+        kept_with = kept_there v begin count lt eb ec2;
       }
 
   pub place_within : (v i : ℕ) → v < voices_in w → i < length (voice (score_of w) v) → all_events (take v (score_of w)) + i < all_events (score_of w)

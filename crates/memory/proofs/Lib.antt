@@ -12,3 +12,6 @@ pub mod Left
 pub mod Fields
 pub mod Enough
 pub mod Opened
+pub mod Changing
+pub mod Midway
+pub mod Anew

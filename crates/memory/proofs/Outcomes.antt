@@ -5,10 +5,10 @@ use Rattle.std.proofs.lemmas.Bool.{and_from, and_left, and_right, lt-ltb, le-ltb
 use Rattle.score.specs.Music.{pick, Event, note, silence, fine, lasts, total}
 use Rattle.score.specs.Calls.{Call, put, cut, change, show, heard_in, how_long, most_bars, widest_span, refused, Score, voice, all_events, none_too_long, ticks_end, call_number, good_fields, good_call, fits, turned_by, turned, changed, told, place}
 use Rattle.score.proofs.Picks.{pick_true, pick_false}
-use Rattle.memory.specs.Store.{stored, voices_in, limit_in, limits_of, layout_of, score_of}
+use Rattle.memory.specs.Store.{stored, voices_in, limit_in, limits_of, layout_of, score_of, Kept}
 use Rattle.memory.specs.Words.{Holds, turned_in, turned_at, answer_by, answer_at, words_by, next_words}
 use Rattle.memory.proofs.Scores.{short_voice}
-use Rattle.memory.proofs.Run.{kept_after}
+use Rattle.memory.proofs.Run.{kept_changed, kept_after}
 use Rattle.memory.proofs.Held.{holds_stored}
 use Rattle.memory.proofs.Changes.{total_put, short_set, events_put, events_cut, total_less, events_change, total_else}
 
@@ -23,6 +23,7 @@ pub record Away (w : List ℕ) (c : Call) (n : ℕ) : Type 0 where
 pub record Done (w : List ℕ) (c : Call) : Type 0 where
   pub said : answer_at w c ≡ told (layout_of w) (score_of w) c
   pub left : next_words w c ≡ stored (limits_of w) (layout_of w) (changed (score_of w) c)
+  pub kept : Kept (limits_of w) (changed (score_of w) c)
   pub holds : Holds (next_words w c)
 
 module _ (w : List ℕ) (h : Holds w) (c : Call) where
@@ -46,6 +47,7 @@ module _ (w : List ℕ) (h : Holds w) (c : Call) where
       record {
         said = pick_true _ _ _ on;
         left = ap (stored (limits_of w) (layout_of w)) (pick_true _ _ _ on);
+        kept = kept_changed (limits_of w) (layout_of w) (score_of w) c h.kept e;
         holds = holds_next;
       }
 

@@ -5,7 +5,7 @@ use Rattle.std.proofs.lemmas.Bool.{and_parts, and_from, and_left, ltb-true, le-l
 use Rattle.score.specs.Music.{Event, note, silence, lasts, total, fine, all_fine, places, alterations, length_end, fine_length}
 use Rattle.score.specs.Calls.{Score, voice, all_events, none_too_long, ticks_end}
 use Rattle.rows.specs.Rows.{stands, alters}
-use Rattle.memory.specs.Store.{flat, all_fines}
+use Rattle.memory.specs.Store.{spread, flat, all_fines}
 
 -- ---- events that can be written
 
@@ -46,7 +46,7 @@ fine_at (e ∷ es) zero d lt h = (and_parts (fine e) _ h).0
 fine_at (e ∷ es) (suc i) d lt h = fine_at es i d (omega arith) (and_parts (fine e) _ h).1
 
 pub fine_flat : (s : Score) → all_fines s ≡ true → all_fine (flat s) ≡ true
-unfolding all_fines flat all_fine
+unfolding all_fines spread all_fine
 fine_flat [] h = refl
 fine_flat (v ∷ vs) h =
     let p = and_parts (all_fine v) (all_fines vs) h in
@@ -60,10 +60,13 @@ fines_voice (x ∷ xs) (suc v) h = fines_voice xs v (and_parts (all_fine x) _ h)
 
 -- ---- how many, and how long
 
+pub length_spread : {X : Type 0} (f : List Event → List X) → ((v : List Event) → length (f v) ≡ length v) → (s : Score) → length (spread f s) ≡ all_events s
+unfolding spread all_events
+length_spread f g [] = refl
+length_spread f g (v ∷ vs) = length-append (f v) (spread f vs) ∙ (ap (λ n. n + length (spread f vs)) (g v) ∙ ap (λ n. length v + n) (length_spread f g vs))
+
 pub length_flat : (s : Score) → length (flat s) ≡ all_events s
-unfolding flat all_events
-length_flat [] = refl
-length_flat (v ∷ vs) = length-append v (flat vs) ∙ ap (λ n. length v + n) (length_flat vs)
+length_flat = length_spread (λ v. v) (λ v. refl)
 
 pub voice_le : (s : Score) (v : ℕ) → v < length s → all_events (take v s) + length (voice s v) ≤ all_events s
 unfolding all_events
@@ -79,14 +82,21 @@ short_voice (x ∷ xs) (suc v) h = short_voice xs v (and_parts (ltb (total x) ti
 
 -- ---- one voice among the others
 
+module _ {X : Type 0} (f : List Event → List X) where
+  pub spread_split : (s : Score) (v : ℕ) → v < length s → spread f s ≡ spread f (take v s) ++ (f (voice s v) ++ spread f (drop (suc v) s))
+  unfolding spread
+  spread_split [] v h = absurd (omega arith)
+  spread_split (x ∷ xs) zero h = refl
+  spread_split (x ∷ xs) (suc v) h = ap (λ es. f x ++ es) (spread_split xs v (omega arith)) ∙ sym (append_assoc (f x) (spread f (take v xs)) _)
+
+  pub spread_set : (s : Score) (v : ℕ) (x : List Event) → v < length s → spread f (set s v x) ≡ spread f (take v s) ++ (f x ++ spread f (drop (suc v) s))
+  unfolding spread
+  spread_set [] v x h = absurd (omega arith)
+  spread_set (y ∷ ys) zero x h = refl
+  spread_set (y ∷ ys) (suc v) x h = ap (λ es. f y ++ es) (spread_set ys v x (omega arith)) ∙ sym (append_assoc (f y) (spread f (take v ys)) _)
+
 pub flat_split : (s : Score) (v : ℕ) → v < length s → flat s ≡ flat (take v s) ++ (voice s v ++ flat (drop (suc v) s))
-unfolding flat
-flat_split [] v h = absurd (omega arith)
-flat_split (x ∷ xs) zero h = refl
-flat_split (x ∷ xs) (suc v) h = ap (λ es. x ++ es) (flat_split xs v (omega arith)) ∙ sym (append_assoc x (flat (take v xs)) _)
+flat_split = spread_split (λ v. v)
 
 pub flat_set : (s : Score) (v : ℕ) (x : List Event) → v < length s → flat (set s v x) ≡ flat (take v s) ++ (x ++ flat (drop (suc v) s))
-unfolding flat
-flat_set [] v x h = absurd (omega arith)
-flat_set (y ∷ ys) zero x h = refl
-flat_set (y ∷ ys) (suc v) x h = ap (λ es. y ++ es) (flat_set ys v x (omega arith)) ∙ sym (append_assoc y (flat (take v ys)) _)
+flat_set = spread_set (λ v. v)

@@ -23,7 +23,7 @@ WordsCounted =
     (l : Limits) (y : Layout) (s : Score) → Kept l s →
     (length (stored l y s) ≡ words_asked l.voices l.events) × (words_asked l.voices l.events ≤ 8 * l.events + 64 * l.voices + 4096)
 
--- where the events of a voice begin on paper is a function of that voice: a change of voice v reaches no other
+-- what is kept of a voice is a function of that voice: a change of voice v reaches no other
 abbrev pub OthersUnreached : Type 0
 OthersUnreached =
     (y : Layout) (s : Score) (v u : ℕ) (V : List Event) → (u ≢ v) →

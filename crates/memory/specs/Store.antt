@@ -1,26 +1,38 @@
 -- How a score lies in words, as a function of its limits, its layout and itself, and the way back. Assumes nothing: these are definitions.
-use Rattle.std.specs.Prelude.{◌≡◌, ℕ, ◌+◌, ◌-◌, ◌*◌, ◌≤◌, Bool, true, ◌&&◌, List, [], ◌∷◌, ◌++◌, map, length, take, drop, replicate, slice_index}
+use Rattle.std.specs.Prelude.{◌≡◌, ℕ, ◌+◌, ◌-◌, ◌*◌, ◌/◌, ◌≤◌, Bool, true, ◌&&◌, List, [], ◌∷◌, ◌++◌, map, length, take, drop, replicate, slice_index}
 use Rattle.score.specs.Music.{Event, lasts, total, all_fine}
 use Rattle.score.specs.Calls.{Limits, Layout, Score, all_events, none_too_long}
 use Rattle.score.specs.Promise.{whole}
 use Rattle.laws.specs.Rows.{voice_of}
+use Rattle.laws.specs.Onsets.{Onset, onsets_of}
 use Rattle.rows.specs.Rows.{stands, alters}
 
 -- how many words the header has, which the counts of the voices follow
 abbrev pub counts_from : ℕ
 counts_from = 4
 
+-- how many words have a bit for each of so many events, and for the place behind the last
+abbrev pub marks_asked : ℕ → ℕ
+marks_asked events = events / 32 + 1
+
 -- how many words a score of so many voices and at most so many events takes, and how many bytes its longest answer
 abbrev pub words_asked : ℕ → ℕ → ℕ
-words_asked voices events = counts_from + (2 * voices + 3 * events)
+words_asked voices events = counts_from + (2 * voices + 6 * events + marks_asked events)
 
 abbrev pub bytes_asked : ℕ → ℕ
 bytes_asked events = 8 * events + 262144
 
--- all events, voice by voice
-unfoldable pub flat : Score → List Event
-flat [] = []
-flat (v ∷ vs) = v ++ flat vs
+-- what f has of each voice, voice by voice
+unfoldable pub spread : {X : Type 0} → (List Event → List X) → Score → List X
+spread f [] = []
+spread f (v ∷ vs) = f v ++ spread f vs
+
+-- all events, and where all events begin on paper
+abbrev pub flat : Score → List Event
+flat s = spread (λ v. v) s
+
+abbrev pub all_onsets : Layout → Score → List Onset
+all_onsets y s = spread (onsets_of y.in_key y.bar_long) s
 
 -- how many events each voice has, and how long each is
 abbrev pub counts : Score → List ℕ
@@ -38,11 +50,24 @@ abbrev pub laid : ℕ → Score → List ℕ → List ℕ
 laid n s rest =
     counts s ++ (ticks s ++ (padded n (map stands (flat s)) ++ (padded n (map alters (flat s)) ++ (padded n (map lasts (flat s)) ++ rest))))
 
--- the header, and the score behind it
-unfoldable pub stored : Limits → Layout → Score → List ℕ
-stored l y s = y.in_key ∷ (y.bar_long ∷ (l.voices ∷ (l.events ∷ laid l.events s [])))
+-- onsets in three more regions of n words, and what follows
+abbrev pub onset_rows : ℕ → List Onset → List ℕ → List ℕ
+onset_rows n os rest = padded n (map (λ x. x.bar) os) ++ (padded n (map (λ x. x.tick) os) ++ (padded n (map (λ x. x.sign) os) ++ rest))
 
--- and back: how many voices, how many events there may be in all, and where the voices' ticks and the three regions begin
+-- no bit is set
+abbrev pub no_marks : ℕ → List ℕ
+no_marks n = replicate (marks_asked n) 0
+
+-- the header, the score behind it, and what follows
+abbrev pub headed : Limits → Layout → Score → List ℕ → List ℕ
+headed l y s rest = y.in_key ∷ (y.bar_long ∷ (l.voices ∷ (l.events ∷ laid l.events s rest)))
+
+-- With each event is kept where it begins on paper, so that nobody has to walk there. The marks behind that are bits, one for each event: those
+-- whose onsets are to be derived anew. Between calls there are none.
+unfoldable pub stored : Limits → Layout → Score → List ℕ
+stored l y s = headed l y s (onset_rows l.events (all_onsets y s) (no_marks l.events))
+
+-- and back: how many voices, how many events there may be in all, and where the voices' ticks and the three regions of events begin
 abbrev pub voices_in : List ℕ → ℕ
 voices_in w = slice_index w 2
 
@@ -60,6 +85,19 @@ alterations_from w = places_from w + limit_in w
 
 abbrev pub lengths_from : List ℕ → ℕ
 lengths_from w = alterations_from w + limit_in w
+
+-- the three regions of onsets, and the marks
+abbrev pub bars_from : List ℕ → ℕ
+bars_from w = lengths_from w + limit_in w
+
+abbrev pub beats_from : List ℕ → ℕ
+beats_from w = bars_from w + limit_in w
+
+abbrev pub signs_from : List ℕ → ℕ
+signs_from w = beats_from w + limit_in w
+
+abbrev pub marks_from : List ℕ → ℕ
+marks_from w = signs_from w + limit_in w
 
 -- Which calls can be done, and whether notes may need signs, is a stage's and not in the words; words hold a score at every stage alike, and are
 -- read as those of the last.

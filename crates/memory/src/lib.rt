@@ -22,7 +22,7 @@ pub fn words_counted()
     ensures { WordsCounted }
 {}
 
-/// Where the events of a voice begin on paper is not reached by a change of another.
+/// What is kept of a voice is not reached by a change of another.
 #[tactic(auto, using(crate::proofs::Changes::others_unreached))]
 pub fn others_unreached()
     ensures { OthersUnreached }

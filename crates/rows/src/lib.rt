@@ -134,3 +134,12 @@ impl Iterator for Rows<'_> {
         })
     }
 }
+
+/// Where the events of a voice begin on paper, in three rows of words: of each the bar, the tick of that bar, and the sign of its first head, a number, or 0
+/// where it has none.
+#[derive(Clone, Copy, PartialEq, Eq, Debug)]
+pub struct Onsets<'a> {
+    pub bars: &'a [u32],
+    pub ticks: &'a [u32],
+    pub signs: &'a [u32],
+}

@@ -4,11 +4,11 @@ ghost use Rattle.score.specs.Calls.{most_bars, show as show_call, heard_in as he
 ghost use Rattle.score.specs.Meaning.{call_meant};
 ghost use Rattle.score.specs.Music.{all_fine};
 ghost use Rattle.memory.specs.Store.{limit_in};
-ghost use Rattle.memory.specs.Words.{events_at, next_words};
+ghost use Rattle.memory.specs.Words.{events_at, KeptAt, next_words};
 ghost use Rattle.engraving.specs.Shown.{shown, page_bytes};
 ghost use Rattle.session.specs.Session.{bytes_taken, told_bytes, Says};
 
-use engraving::voice::Voice;
+use engraving::voice::{KeptVoice, Voice};
 use score::{Answer, Call, MOST_BARS, Refusal, Sound, Symbol, WIDEST_SPAN};
 use sounds::heard_in;
 use voices::{Span, Stored, StoredMut};
@@ -29,6 +29,7 @@ fn write_told(bytes: &mut [u8], told: Result<Answer, Refusal>) -> usize
 /// Prints bars of the voice that lies in a span.
 fn print(score: Stored<'_>, span: Span, bar: u32, count: u32, out: &mut [u8]) -> usize
     requires within { span.begin + span.count ≤ limit_in score.words.now }
+    requires kept { KeptAt score.words.now span.begin span.count }
     requires fine { all_fine (events_at score.words.now span.begin span.count) ≡ true }
     requires few { count ≤ most_bars }
     requires room { page_bytes ≤ length out.old }
@@ -40,7 +41,11 @@ fn print(score: Stored<'_>, span: Span, bar: u32, count: u32, out: &mut [u8]) ->
         rows: score.rows(span),
         layout: score.layout(),
     };
-    voice.engrave_page(bar, count, out)
+    let kept = KeptVoice {
+        voice,
+        onsets: score.onsets(span),
+    };
+    kept.engrave_page(bar, count, out)
 }
 
 /// Shows bars of a voice.

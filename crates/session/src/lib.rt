@@ -49,7 +49,7 @@ impl Sizes {
         let voices = voices as usize;
         let events = events as usize;
         Sizes {
-            words: COUNTS + (2 * voices + 3 * events),
+            words: COUNTS + (2 * voices + 6 * events + (events / 32 + 1)),
             bytes: Sound::SIZE * events + LEAST_BYTES,
         }
     }
@@ -172,7 +172,7 @@ mod tests {
 
     #[test]
     fn a_note_is_put_and_shown(rt: HostRuntime) -> Result<(), Fail> {
-        let mut words = vec![in rt.alloc(); 0; 12]?;
+        let mut words = vec![in rt.alloc(); 0; 19]?;
         let mut bytes = vec![in rt.alloc(); 0; 262160]?;
         shows(&rt, &mut words, &mut bytes)
     }
@@ -186,7 +186,7 @@ mod tests {
             events: 2,
         };
         assert_eq!(rt;
-            open(&mut [0; 11], &mut [], opening),
+            open(&mut [0; 18], &mut [], opening),
             Err(Refusal::TooLittleMemory)
         );
         let opening = Opening { bar: 97, ..opening };

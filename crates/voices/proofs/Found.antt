@@ -1,27 +1,40 @@
 -- What a put, a cut and a change come to, by what each check finds in words that hold a score. Assumes nothing.
-use Rattle.std.proofs.Common.{◌≡◌, ℕ, ◌+◌, ◌-◌, ◌<◌, ◌≤◌, true, false, List, length, get_or, take, sym, ap, ◌∙◌, subst, arith}
+use Rattle.std.proofs.Common.{◌≡◌, ℕ, ◌+◌, ◌-◌, ◌<◌, ◌≤◌, true, false, ◌⊎◌, inl, inr, List, length, get_or, take, sym, ap, ◌∙◌, subst, arith}
+use Rattle.std.specs.Prelude.{◌==◌}
+use Rattle.std.proofs.lemmas.Bool.{eqb-true, cases_lt}
 use Rattle.score.specs.declared.Refusal.TheVariants.{OutOfRange, NoVoice, NoEvent, Full}
 use Rattle.score.specs.Music.{Event, silence, fine, lasts, total, length_end}
 use Rattle.score.specs.Calls.{Call, put, cut, change, done, voice, all_events, ticks_end, place, told}
-use Rattle.memory.specs.Store.{counts_from, voices_in, limit_in, score_of}
-use Rattle.memory.specs.Words.{Holds, Spans, answer_at, next_words}
+use Rattle.memory.specs.Store.{counts_from, voices_in, limit_in, bars_from, score_of}
+use Rattle.memory.specs.Words.{Holds, Spans, answer_at, next_words, kept_anew, onsets_in, Unkept, Between}
 use Rattle.memory.specs.Moves.{with_event, without_event, with_other}
+use Rattle.laws.proofs.Reaching.{no_onset}
 use Rattle.memory.proofs.Scores.{fine_fields}
-use Rattle.memory.proofs.Held.{count_at, gap_within, place_within, length_there}
+use Rattle.memory.proofs.Held.{count_at, gap_within, place_within, length_there, bars_region, onset_word_at}
 use Rattle.memory.proofs.Changes.{total_cut}
 use Rattle.memory.proofs.Outcomes.{put_unfine, put_no_voice, put_no_event, put_too_many, put_too_long, put_done, cut_no_voice, cut_no_event, cut_done, change_unfine, change_no_voice, change_no_event, change_too_long, change_done}
-use Rattle.memory.proofs.Left.{put_left, cut_left, change_left}
+use Rattle.memory.proofs.Changing.{put_between, cut_between, change_between}
 use Rattle.rows.specs.declared.Row.{Row}
 use Rattle.rows.specs.Rows.{row_of}
 use Rattle.voices.specs.declared.Span.{Span}
 use Rattle.voices.specs.Said.{TurnedAway, Writable, NotWritable}
 use Rattle.voices.specs.Rows.{row_in}
 
--- a call is done, and leaves these words
-pub record Done (w : List ℕ) (c : Call) (w' : List ℕ) : Type 0 where
+-- A call is done, once what is kept of these words is derived anew, which is still wrong from one event of a voice on up to before another.
+pub record Done (w : List ℕ) (c : Call) (w' : List ℕ) (begin count from to : ℕ) : Type 0 where
   pub said : done ≡ answer_at w c
-  pub left : w' ≡ next_words w c
-  pub holds : Holds w'
+  pub unkept : Unkept w' begin count from to
+  pub left : (x : List ℕ) → x ≡ kept_anew w' → x ≡ next_words w c
+  pub holds : (x : List ℕ) → x ≡ kept_anew w' → Holds x
+
+-- what is done is what lies in between
+done_between : {w : List ℕ} {c : Call} {w' : List ℕ} {begin count from to : ℕ} → done ≡ answer_at w c → Holds (next_words w c) → Between w c w' begin count from to → Done w c w' begin count from to
+done_between said holds b = record {
+  said = said;
+  unkept = b.unkept;
+  left = λ x e. e ∙ b.anew;
+  holds = λ x e. subst Holds (sym (e ∙ b.anew)) holds;
+}
 
 pub short_row : (e : Event) (r : Row) → fine e ≡ true → r ≡ row_of e → r.length < length_end
 short_row e r f g = let x = fine_fields e f in let l = ap (λ r. r.length) g in omega (arith, x.3)
@@ -76,15 +89,15 @@ module _ (w : List ℕ) (h : Holds w) (v i : ℕ) where
       gap_in_all = omega (arith, gap_within w h v i t.spans.there in_it, g.1, t.spans.begins)
 
       pub put_is : (used ticks : ℕ) → (used ≡ all_events (score_of w)) × (used < limit_in w) → (ticks ≡ total V - 0 + row.length) × (ticks < ticks_end) →
-          Done w (put v i e) (with_event w v used at ticks row.place row.alteration row.length)
+          Done w (put v i e) (with_event w v used at ticks row.place row.alteration row.length) span.begin (span.count + 1) i (span.count + 1)
       unfolding told
       put_is used ticks u k =
           let long_then : ticks ≡ total V + lasts e = omega (arith, k.0, long) in
           let room : all_events (score_of w) < limit_in w = omega (arith, u.0, u.1) in
           let d = put_done w h v i e t.can_write t.spans.there in_it room (omega (arith, k.1)) in
-          let laid = put_left w h v i at ticks t.spans.there (omega (arith, g.1, t.spans.begins)) e used t.can_write in_it room k.1 u.0 long_then in
-          let left = ap (λ r. with_event w v used at ticks r.place r.alteration r.length) t.words ∙ laid in
-          record { said = sym d.said; left = left; holds = subst Holds (sym left) d.holds }
+          let mid = put_between w h v i at ticks span.begin span.count t.spans.there t.spans g.1 e used t.can_write (omega (arith, g.0)) room k.1 u.0 long_then in
+          let words = ap (λ r. with_event w v used at ticks r.place r.alteration r.length) t.words in
+          done_between (sym d.said) d.holds (subst (λ x. Between w (put v i e) x span.begin (span.count + 1) i (span.count + 1)) (sym words) mid)
 
   -- an event that is there
   module _ (span : Span) (s : Spans w v span.begin span.count) where
@@ -115,12 +128,12 @@ module _ (w : List ℕ) (h : Holds w) (v i : ℕ) where
       pub some_there : 0 < get_or w (counts_from + v) 0
       some_there = omega (arith, count_at w h v s.there, is_there)
 
-      pub cut_is : (used ticks : ℕ) → used ≡ all_events (score_of w) → ticks ≡ total V - old.length → Done w (cut v i) (without_event w v used at ticks)
+      pub cut_is : (used ticks : ℕ) → used ≡ all_events (score_of w) → ticks ≡ total V - old.length → Done w (cut v i) (without_event w v used at ticks) span.begin (span.count - 1) i (span.count - 1)
       unfolding told
       cut_is used ticks u k =
           let d = cut_done w h v i s.there is_there in
-          let left = cut_left w h v i at ticks s.there place_is (silence 0) used is_there u (k ∙ ap (λ n. total V - n) length_is) in
-          record { said = sym d.said; left = left; holds = subst Holds (sym left) d.holds }
+          let mid = cut_between w h v i at ticks span.begin span.count s.there s g.1 (silence 0) used g.0 u (k ∙ ap (λ n. total V - n) length_is) in
+          done_between (sym d.said) d.holds mid
 
       module _ (e : Event) (row : Row) (f : fine e ≡ true) (r : row ≡ row_of e) where
         long_else : total V - old.length + row.length ≡ total V - lasts (get_or V i (silence 0)) + lasts e
@@ -131,11 +144,33 @@ module _ (w : List ℕ) (h : Holds w) (v i : ℕ) where
         too_long_to_change n =
             let a = change_too_long w h v i e (silence 0) f s.there is_there (subst (λ n. ticks_end ≤ n) long_else n) in record { said = sym a.said; left = sym a.left }
 
-        pub change_is : (ticks : ℕ) → (ticks ≡ total V - old.length + row.length) × (ticks < ticks_end) → Done w (change v i e) (with_other w v at ticks row.place row.alteration row.length)
+        -- the bar that is kept with an event of the voice
+        kept_bar : (n : ℕ) → n < span.count → get_or w (bars_from w + (span.begin + n)) 0 ≡ (get_or (onsets_in w v) n no_onset).bar
+        kept_bar n l =
+            ap (λ b. get_or w (bars_from w + (b + n)) 0) s.begins ∙ onset_word_at w h (λ x. x.bar) (bars_from w) v n no_onset (bars_region w h) s.there (omega (arith, l, s.counts))
+
+        -- how far the change reaches
+        abbrev Reach : ℕ → Type 0
+        Reach to =
+            (span.count ≤ to)
+            ⊎ ((lasts e ≡ lasts (get_or V i (silence 0))) × (i < to) × ((get_or (onsets_in w v) to no_onset).bar ≡ (get_or (onsets_in w v) i no_onset).bar → ⊥))
+
+        reach : (to : ℕ) → i < to
+            → (to ≡ span.count) ⊎ (((row.length == old.length) ≡ true) × (get_or w (bars_from w + (span.begin + to)) 0 ≡ get_or w (bars_from w + (span.begin + i)) 0 → ⊥)) → Reach to
+        reach to b (inl z) = inl (omega arith)
+        reach to b (inr z) = go (cases_lt to span.count)
+          where
+            go : (to < span.count) ⊎ (span.count ≤ to) → Reach to
+            go (inr q) = inl q
+            go (inl q) = inr (sym (ap (λ x. x.length) r) ∙ (eqb-true _ _ z.0 ∙ length_is), b, (λ h. z.1 (kept_bar to q ∙ (h ∙ sym (kept_bar i g.0)))))
+
+        pub change_is : (ticks to : ℕ) → (ticks ≡ total V - old.length + row.length) × (ticks < ticks_end) → i < to
+            → (to ≡ span.count) ⊎ (((row.length == old.length) ≡ true) × (get_or w (bars_from w + (span.begin + to)) 0 ≡ get_or w (bars_from w + (span.begin + i)) 0 → ⊥))
+            → Done w (change v i e) (with_other w v at ticks row.place row.alteration row.length) span.begin span.count i to
         unfolding told
-        change_is ticks k =
+        change_is ticks to k b o =
             let long_then = k.0 ∙ long_else in
             let d = change_done w h v i e (silence 0) f s.there is_there (subst (λ n. n < ticks_end) long_then k.1) in
-            let laid = change_left w h v i at ticks s.there place_is e (silence 0) f is_there k.1 long_then in
-            let left = ap (λ x. with_other w v at ticks x.place x.alteration x.length) r ∙ laid in
-            record { said = sym d.said; left = left; holds = subst Holds (sym left) d.holds }
+            let mid = change_between w h v i at ticks span.begin span.count s.there s g.1 e (silence 0) to f g.0 k.1 long_then (reach to b o) in
+            let words = ap (λ x. with_other w v at ticks x.place x.alteration x.length) r in
+            done_between (sym d.said) d.holds (subst (λ x. Between w (change v i e) x span.begin span.count i to) (sym words) mid)

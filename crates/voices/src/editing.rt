@@ -1,16 +1,25 @@
 //! Words that hold a score, to be changed.
-ghost use Rattle.std.specs.Prelude.{◌≡◌, ◌+◌, ◌<◌, ◌≤◌, slice_index};
+ghost use Rattle.std.specs.Prelude.{◌≡◌, ◌+◌, ◌*◌, ◌<◌, ◌≤◌, length, slice_index};
 ghost use Rattle.score.specs.Calls.{put as put_call, cut as cut_call, change as change_call};
 ghost use Rattle.score.specs.Meaning.{event_meant};
-ghost use Rattle.memory.specs.Moves.{with_event, without_event, with_other};
+ghost use Rattle.memory.specs.Moves.{rows_in, rows_out, with_event, without_event, with_other};
 ghost use Rattle.memory.specs.Store.{counts_from, limit_in, voices_in};
 ghost use Rattle.memory.specs.Words.{Holds, answer_at, next_words};
 ghost use Rattle.voices.specs.Said.{said_done};
 
+use super::keeping::keep;
 use super::moves::{insert_at, remove_at};
-use super::{COUNTS, Stored};
+use super::regions::regions_of;
+use super::{COUNTS, LIMIT, Span, Stored};
 use rows::Row;
 use score::{Event, Refusal};
+
+/// What is written for where an event begins before that is derived.
+const UNKNOWN: Row = Row {
+    place: 0,
+    alteration: 0,
+    length: 0,
+};
 
 /// A score as it is stored in lent words, to be changed.
 // What changes it says `same` too, that it lends the same words still: before and after are no field's.
@@ -20,10 +29,38 @@ pub struct StoredMut<'a> {
     pub ghost holds: { Holds words.now },
 }
 
-// The next three go over plain words: between the first write and the last no score lies there. They take a voice, a place and ticks one by one, as the
+// The next five go over plain words: between the first write and the last no score lies there. They take a voice, a place and ticks one by one, as the
 // definitions with_event, without_event and with_other do.
 
-/// An event comes in at a place of each region, into a voice that is then so many ticks long.
+/// A word comes in at a place of each of three regions of `limit` words, of which so many are in use. The first of them begins at a word.
+fn insert_row(words: &mut [u32], begin: usize, limit: usize, used: usize, at: usize, row: Row)
+    requires within { at ≤ used }
+    requires room { used < limit }
+    requires regions { begin + 3 * limit ≤ length words.old }
+    ensures { words.new ≡ rows_in words.old begin limit used at row.place row.alteration row.length }
+{
+    let next = begin + limit;
+    let last = next + limit;
+    insert_at(words, begin + at, begin + used, row.place);
+    insert_at(words, next + at, next + used, row.alteration);
+    insert_at(words, last + at, last + used, row.length);
+}
+
+/// A word goes out at a place of each of three regions of `limit` words, of which so many are in use. The first of them begins at a word.
+fn remove_row(words: &mut [u32], begin: usize, limit: usize, used: usize, at: usize)
+    requires within { at < used }
+    requires room { used ≤ limit }
+    requires regions { begin + 3 * limit ≤ length words.old }
+    ensures { words.new ≡ rows_out words.old begin limit used at }
+{
+    let next = begin + limit;
+    let last = next + limit;
+    remove_at(words, begin + at, begin + used);
+    remove_at(words, next + at, next + used);
+    remove_at(words, last + at, last + used);
+}
+
+/// An event comes in at a place of each region, into a voice that is then so many ticks long. Where it begins on paper is still to be derived.
 fn insert_event(words: &mut [u32], voice: usize, used: usize, at: usize, ticks: u32, row: Row)
     requires holds { Holds words.old }
     requires there { voice < voices_in words.old }
@@ -31,16 +68,14 @@ fn insert_event(words: &mut [u32], voice: usize, used: usize, at: usize, ticks: 
     requires room { used < limit_in words.old }
     ensures { words.new ≡ with_event words.old voice used at ticks row.place row.alteration row.length }
 {
-    let score = Stored::of(words);
-    let begins = score.begins();
-    let ticks_at = score.ticks_at(voice);
+    let regions = regions_of(words);
+    let limit = words[LIMIT] as usize;
+    let ticks_at = Stored::of(words).ticks_at(voice);
     let count = words[COUNTS + voice];
-    let row = [row.place, row.alteration, row.length];
-    for (begin, word) in begins.iter().zip(&row) {
-        insert_at(words, begin + at, begin + used, *word);
-    }
+    insert_row(words, regions.rows[0], limit, used, at, row);
     words[COUNTS + voice] = count + 1;
     words[ticks_at] = ticks;
+    insert_row(words, regions.onsets[0], limit, used, at, UNKNOWN);
 }
 
 /// The event at a place goes out of each region, from a voice that is then so many ticks long.
@@ -52,15 +87,14 @@ fn remove_event(words: &mut [u32], voice: usize, used: usize, at: usize, ticks: 
     requires room { used ≤ limit_in words.old }
     ensures { words.new ≡ without_event words.old voice used at ticks }
 {
-    let score = Stored::of(words);
-    let begins = score.begins();
-    let ticks_at = score.ticks_at(voice);
+    let regions = regions_of(words);
+    let limit = words[LIMIT] as usize;
+    let ticks_at = Stored::of(words).ticks_at(voice);
     let count = words[COUNTS + voice];
-    for begin in &begins {
-        remove_at(words, begin + at, begin + used);
-    }
+    remove_row(words, regions.rows[0], limit, used, at);
     words[COUNTS + voice] = count - 1;
     words[ticks_at] = ticks;
+    remove_row(words, regions.onsets[0], limit, used, at);
 }
 
 /// The event at a place of each region becomes another, in a voice that is then so many ticks long.
@@ -70,13 +104,11 @@ fn set_event(words: &mut [u32], voice: usize, at: usize, ticks: u32, row: Row)
     requires within { at < limit_in words.old }
     ensures { words.new ≡ with_other words.old voice at ticks row.place row.alteration row.length }
 {
-    let score = Stored::of(words);
-    let begins = score.begins();
-    let ticks_at = score.ticks_at(voice);
-    let row = [row.place, row.alteration, row.length];
-    for (begin, word) in begins.iter().zip(&row) {
-        words[begin + at] = *word;
-    }
+    let [places, alterations, lengths] = regions_of(words).rows;
+    let ticks_at = Stored::of(words).ticks_at(voice);
+    words[places + at] = row.place;
+    words[alterations + at] = row.alteration;
+    words[lengths + at] = row.length;
     words[ticks_at] = ticks;
 }
 
@@ -114,7 +146,10 @@ impl<'a> StoredMut<'a> {
         let Some(ticks) = score.find_ticks(voice as usize, 0, row.length) else {
             return Err(Refusal::Full);
         };
-        insert_event(self.words, voice as usize, used, at, ticks, row);
+        let words = &mut *self.words;
+        insert_event(words, voice as usize, used, at, ticks, row);
+        let count = span.count + 1;
+        keep(words, Span { count, ..span }, index as usize, count);
         Ok(())
     }
 
@@ -133,7 +168,10 @@ impl<'a> StoredMut<'a> {
         };
         let ticks = score.ticks_of(voice as usize) - score.row_at(at).length;
         let used = score.events_in();
-        remove_event(self.words, voice as usize, used, at, ticks);
+        let words = &mut *self.words;
+        remove_event(words, voice as usize, used, at, ticks);
+        let count = span.count - 1;
+        keep(words, Span { count, ..span }, index as usize, count);
         Ok(())
     }
 
@@ -152,7 +190,10 @@ impl<'a> StoredMut<'a> {
         let Some(ticks) = score.find_ticks(voice as usize, old.length, row.length) else {
             return Err(Refusal::Full);
         };
-        set_event(self.words, voice as usize, at, ticks, row);
+        let end = score.end_of_change(span, index as usize, row.length == old.length);
+        let words = &mut *self.words;
+        set_event(words, voice as usize, at, ticks, row);
+        keep(words, span, index as usize, end);
         Ok(())
     }
 }

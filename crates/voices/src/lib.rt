@@ -11,8 +11,10 @@ ghost use Rattle.memory.specs.Words.{Holds};
 ghost use Rattle.rows.specs.Rows.{row_of};
 
 mod editing;
+mod keeping;
 mod moves;
 mod reading;
+mod regions;
 
 pub use editing::StoredMut;
 pub use reading::Stored;
@@ -34,7 +36,7 @@ pub const LIMIT: usize = 3;
 /// Behind the header: the first voice's word for how many events it has.
 pub const COUNTS: usize = 4;
 
-/// Where the events of a voice lie in each of the three regions: so many words from a beginning on.
+/// Where the events of a voice lie in each region: so many words from a beginning on.
 #[derive(Clone, Copy, PartialEq, Eq, Debug)]
 pub struct Span {
     pub begin: usize,
@@ -107,7 +109,7 @@ mod tests {
             length: 48,
         };
         let silence = Event::Silence { length: 96 };
-        let mut words = [1; 14];
+        let mut words = [1; 21];
         let opening = Opening {
             key: 7,
             bar: 192,
@@ -115,10 +117,20 @@ mod tests {
             events: 2,
         };
         lay_out(&mut words, opening);
-        assert_eq!(rt; words, [7, 192, 2, 2, 0, 0, 0, 0, 0, 0, 0, 0, 0, 0]);
+        assert_eq!(rt;
+            words,
+            [
+                7, 192, 2, 2, 0, 0, 0, 0, 0, 0, 0, 0, 0, 0, 0, 0, 0, 0, 0, 0, 0,
+            ]
+        );
         assert_eq!(rt; StoredMut::of(&mut words).put(1, 0, c), Ok(()));
         assert_eq!(rt; StoredMut::of(&mut words).put(0, 0, silence), Ok(()));
-        assert_eq!(rt; words, [7, 192, 2, 2, 1, 1, 96, 48, 70, 28, 0, 2, 96, 48]);
+        assert_eq!(rt;
+            words,
+            [
+                7, 192, 2, 2, 1, 1, 96, 48, 70, 28, 0, 2, 96, 48, 0, 0, 0, 0, 0, 0, 0,
+            ]
+        );
         assert_eq!(rt; StoredMut::of(&mut words).put(0, 1, c), Err(Refusal::Full));
         assert_eq!(rt; StoredMut::of(&mut words).change(1, 0, silence), Ok(()));
         assert_eq!(rt; Stored::of(&words).how_long(1), Ok(96));
@@ -127,6 +139,11 @@ mod tests {
             StoredMut::of(&mut words).cut(0, 0),
             Err(Refusal::NoEvent(0))
         );
-        assert_eq!(rt; words, [7, 192, 2, 2, 0, 1, 0, 96, 70, 0, 0, 0, 96, 0]);
+        assert_eq!(rt;
+            words,
+            [
+                7, 192, 2, 2, 0, 1, 0, 96, 70, 0, 0, 0, 96, 0, 0, 0, 0, 0, 0, 0, 0,
+            ]
+        );
     }
 }

@@ -1,16 +1,17 @@
 //! Words that hold a score, to be read.
-ghost use Rattle.std.specs.Prelude.{◌≡◌, ◌+◌, ◌-◌, ◌^◌, ◌<◌, ◌≤◌, length, take, drop, sum, MatchOption, MatchResult, slice_index};
+ghost use Rattle.std.specs.Prelude.{◌≡◌, ◌+◌, ◌-◌, ◌^◌, ◌<◌, ◌≤◌, length, take, drop, sum, true, ◌⊎◌, ◌≢◌, MatchOption, MatchResult, slice_index};
 ghost use Rattle.std.specs.Option.{option_map};
 ghost use Rattle.score.specs.Meaning.{event_meant};
 ghost use Rattle.score.specs.Music.{length_end, total};
 ghost use Rattle.score.specs.Calls.{all_events, ticks_end, how_long, voice as voice_of_score};
-ghost use Rattle.memory.specs.Store.{counts_from, ticks_from, voices_in, limit_in, places_from, alterations_from, lengths_from, score_of};
+ghost use Rattle.memory.specs.Store.{counts_from, ticks_from, voices_in, limit_in, places_from, alterations_from, lengths_from, bars_from, beats_from, signs_from, score_of};
 ghost use Rattle.memory.specs.Words.{Holds, Spans, answer_at};
 ghost use Rattle.voices.specs.Said.{said_number, event_at, Writable, NotWritable};
-ghost use Rattle.voices.specs.Rows.{begins_in, row_in};
+ghost use Rattle.voices.specs.Rows.{row_in};
 
+use super::regions::regions_of;
 use super::{BAR, COUNTS, KEY, LIMIT, Span, VOICES, find_row};
-use rows::{Row, Rows};
+use rows::{Onsets, Row, Rows};
 use score::{Event, Layout, Refusal, TICKS_END};
 
 /// A score as it is stored in lent words.
@@ -55,16 +56,6 @@ impl<'a> Stored<'a> {
         &words[COUNTS..COUNTS + words[VOICES] as usize]
     }
 
-    /// Where the regions of places, alterations and lengths begin.
-    pub fn begins(self) -> [usize; 3]
-        ensures begins { result ≡ begins_in self.entry.words.now }
-        ensures within { lengths_from self.entry.words.now + limit_in self.entry.words.now ≡ length self.entry.words.now }
-    {
-        let limit = self.words[LIMIT] as usize;
-        let first = COUNTS + 2 * self.words[VOICES] as usize;
-        [first, first + limit, first + limit + limit]
-    }
-
     /// The rows of words of the events that lie in a span.
     pub fn rows(self, span: Span) -> Rows<'a>
         requires { span.begin + span.count ≤ limit_in self.words.now }
@@ -73,11 +64,27 @@ impl<'a> Stored<'a> {
         ensures lengths { result.lengths.now ≡ take span.count (drop (lengths_from self.entry.words.now + span.begin) self.entry.words.now) }
     {
         let words = self.words;
-        let [places, alterations, lengths] = self.begins();
+        let [places, alterations, lengths] = regions_of(words).rows;
         Rows {
             places: span.part_of(words, places),
             alterations: span.part_of(words, alterations),
             lengths: span.part_of(words, lengths),
+        }
+    }
+
+    /// Where the events that lie in a span begin on paper.
+    pub fn onsets(self, span: Span) -> Onsets<'a>
+        requires { span.begin + span.count ≤ limit_in self.words.now }
+        ensures bars { result.bars.now ≡ take span.count (drop (bars_from self.entry.words.now + span.begin) self.entry.words.now) }
+        ensures ticks { result.ticks.now ≡ take span.count (drop (beats_from self.entry.words.now + span.begin) self.entry.words.now) }
+        ensures signs { result.signs.now ≡ take span.count (drop (signs_from self.entry.words.now + span.begin) self.entry.words.now) }
+    {
+        let words = self.words;
+        let [bars, ticks, signs] = regions_of(words).onsets;
+        Onsets {
+            bars: span.part_of(words, bars),
+            ticks: span.part_of(words, ticks),
+            signs: span.part_of(words, signs),
         }
     }
 
@@ -203,5 +210,23 @@ impl<'a> Stored<'a> {
     {
         let ticks = self.ticks_of(voice) - less + more;
         (ticks < TICKS_END).then_some(ticks)
+    }
+
+    /// How far a change of an event reaches: if the event is as long as it was, up to the first event behind it that begins in another bar, else to the
+    /// voice's end.
+    pub(crate) fn end_of_change(self, span: Span, index: usize, same: bool) -> usize
+        requires there { index < span.count }
+        requires within { span.begin + span.count ≤ limit_in self.words.now }
+        ensures behind { index < result }
+        ensures within { result ≤ span.count }
+        ensures other { (result ≡ span.count) ⊎ ((same ≡ true) × (slice_index self.entry.words.now (bars_from self.entry.words.now + (span.begin + result)) ≢ slice_index self.entry.words.now (bars_from self.entry.words.now + (span.begin + index)))) }
+    {
+        if !same {
+            return span.count;
+        }
+        let bars = self.onsets(span).bars;
+        let behind = index + 1;
+        let other = bars[behind..].iter().position(|bar| *bar != bars[index]);
+        other.map_or(span.count, |passed| behind + passed)
     }
 }

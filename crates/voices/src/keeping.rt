@@ -1,0 +1,154 @@
+//! What is kept with the events, which is where each begins on paper, derived anew behind a change.
+ghost use Rattle.std.specs.Prelude.{◌≡◌, ◌+◌, ◌-◌, ◌/◌, ◌%◌, ◌^◌, ◌<◌, ◌≤◌, true, ◌⊎◌, length, take, drop, ◌≢◌, nat_le, slice_index};
+ghost use Rattle.score.specs.Calls.{ticks_end};
+ghost use Rattle.score.specs.Music.{pick, length_end};
+ghost use Rattle.score.specs.Print.{key};
+ghost use Rattle.keys.specs.Held.{held_in, sign_number};
+ghost use Rattle.marks.specs.Marked.{has};
+ghost use Rattle.memory.specs.Moves.{rows_set};
+ghost use Rattle.memory.specs.Store.{words_asked, voices_in, limit_in, counts_from, bars_from, marks_from};
+ghost use Rattle.memory.specs.Words.{kept_anew, Unkept, Deriving};
+ghost use Rattle.voices.specs.Regions.{regions_in};
+ghost use Rattle.voices.specs.Rows.{row_in};
+
+use super::regions::{Regions, regions_of};
+use super::{BAR, KEY, Span};
+use keys::{Holds, begin_bar, sign_of};
+use marks::{is_marked, mark, unmark};
+use rows::Row;
+use score::PLACES;
+
+/// The first event of the bar in which the event before an index begins, or the first of all: there the key holds.
+fn first_of_bar(bars: &[u32], index: usize) -> usize
+    requires { index ≤ length bars.now }
+    ensures before { result ≤ index }
+    ensures first { (result ≡ 0) ⊎ ((0 < result) × (result < index) × (slice_index bars.now (result - 1) ≢ slice_index bars.now result)) }
+{
+    if index == 0 {
+        return 0;
+    }
+    let mut first = index - 1;
+    while first > 0 && bars[first - 1] == bars[first] {
+        first -= 1;
+    }
+    first
+}
+
+/// The words of the event at a place.
+fn row_at(words: &[u32], regions: Regions, at: usize) -> Row
+    requires regions { regions ≡ regions_in words.now }
+    requires size { length words.now ≡ words_asked (voices_in words.now) (limit_in words.now) }
+    requires within { at < limit_in words.now }
+    ensures { result ≡ row_in words.now at }
+{
+    let [places, alterations, lengths] = regions.rows;
+    Row {
+        place: words[places + at],
+        alteration: words[alterations + at],
+        length: words[lengths + at],
+    }
+}
+
+/// The word of a sign: 0 for none, or one more than the alteration that it is of.
+fn sign_word(sign: Option<u32>) -> u32
+    requires { sign_number sign < 2 ^ 32 }
+    ensures { result ≡ sign_number sign }
+{
+    sign.map_or(0, |alteration| alteration + 1)
+}
+
+/// Writes where the event at a place begins: its bar, the tick of that bar, and its sign.
+fn write_onset(words: &mut [u32], regions: Regions, at: usize, bar: u32, tick: u32, sign: u32)
+    requires regions { regions ≡ regions_in words.old }
+    requires size { length words.old ≡ words_asked (voices_in words.old) (limit_in words.old) }
+    requires within { at < limit_in words.old }
+    ensures { words.new ≡ rows_set words.old (bars_from words.old) (limit_in words.old) at bar tick sign }
+{
+    let [bars, beats, signs] = regions.onsets;
+    words[bars + at] = bar;
+    words[beats + at] = tick;
+    words[signs + at] = sign;
+}
+
+/// Writes where the event at a place begins, takes its mark away, and returns how long the event is. What holds behind it is then in `holds`.
+fn keep_onset(
+    words: &mut [u32],
+    regions: Regions,
+    holds: &mut Holds,
+    at: usize,
+    bar: u32,
+    tick: u32,
+) -> u32
+    requires regions { regions ≡ regions_in words.old }
+    requires state { Deriving words.old at bar tick (held_in (slice_index words.old 0) holds.old) }
+    requires marked { has (drop (marks_from words.old) words.old) at ≡ true }
+    ensures next { Deriving words.new (at + 1) (bar + (tick + result) / slice_index words.old 1) ((tick + result) % slice_index words.old 1) (pick (nat_le (slice_index words.old 1) (tick + result)) (key (slice_index words.old 0)) (held_in (slice_index words.old 0) holds.new)) }
+    ensures anew { kept_anew words.new ≡ kept_anew words.old }
+    ensures header { take counts_from words.new ≡ take counts_from words.old }
+    ensures small { (result < length_end) × (bar < ticks_end) }
+{
+    let row = row_at(words, regions, at);
+    let sign = sign_word(sign_of(holds, row.place, row.alteration));
+    write_onset(words, regions, at, bar, tick, sign);
+    unmark(&mut words[regions.marks..], at);
+    row.length
+}
+
+/// The bar and the tick of it behind an event that ends so many ticks behind the beginning of a bar, over its line. Few events are longer than a bar, so
+/// that there is seldom something to divide.
+fn over_line(bar: u32, ticks: u32, measure: u32) -> (u32, u32)
+    requires positive { 0 < measure }
+    requires over { measure ≤ ticks }
+    requires small { bar + ticks < 2 ^ 32 }
+    ensures bar { result.0 ≡ bar + ticks / measure }
+    ensures tick { result.1 ≡ ticks % measure }
+{
+    let past = ticks - measure;
+    if past < measure {
+        return (bar + 1, past);
+    }
+    (bar + ticks / measure, ticks % measure)
+}
+
+/// Derives anew where the marked events begin. The first of them is at a place, and begins at a tick of a bar where the key holds.
+fn derive(words: &mut [u32], regions: Regions, first: usize, bar: u32, tick: u32)
+    requires regions { regions ≡ regions_in words.old }
+    requires state { Deriving words.old first bar tick (key (slice_index words.old 0)) }
+    ensures { words.new ≡ kept_anew words.old }
+{
+    let measure = words[BAR];
+    let mut row = [0; PLACES];
+    begin_bar(words[KEY], &mut row);
+    let mut holds = row;
+    let mut at = first;
+    let mut bar = bar;
+    let mut tick = tick;
+    'events: while is_marked(&words[regions.marks..], at) {
+        tick += keep_onset(words, regions, &mut holds, at, bar, tick);
+        if tick >= measure {
+            (bar, tick) = over_line(bar, tick, measure);
+            holds = row;
+        }
+        at += 1;
+    }
+}
+
+/// Derives anew where the events of a voice begin, from an index up to before an end.
+pub fn keep(words: &mut [u32], span: Span, index: usize, end: usize)
+    requires unkept { Unkept words.old span.begin span.count index end }
+    requires range { index ≤ end }
+    requires within { end ≤ span.count }
+    ensures { words.new ≡ kept_anew words.old }
+{
+    let regions = regions_of(words);
+    let [bars, beats, _] = regions.onsets;
+    let first = first_of_bar(span.part_of(words, bars), index);
+    let at = span.begin + first;
+    let (bar, tick) = if first > 0 {
+        (words[bars + at], words[beats + at])
+    } else {
+        (0, 0)
+    };
+    mark(&mut words[regions.marks..], at, span.begin + end);
+    derive(words, regions, at, bar, tick);
+}
