@@ -73,8 +73,7 @@ impl Voice<'_> {
         let mut holds = key;
         let mut tick = 0;
         // by their number: of a zip with `signs.iter_mut()` the loop's invariant knows the words that are left and not `signs`
-        for i in 0..rows.lengths.len() {
-            let row = rows.row(i);
+        for (i, row) in rows.enumerate() {
             signs[i] = kept_sign(sign_of(&mut holds, row.place, row.alteration));
             tick += row.length as u64;
             if tick >= layout.bar as u64 {
