@@ -1,3 +1,4 @@
+-- What holds before each sign is written. Assumes nothing.
 use Rattle.engraving.proofs.Deriving.{Derived}
 use Rattle.engraving.proofs.voice.Voice.derive_signs.Given as goal
 
