@@ -66,9 +66,8 @@ impl Voice<'_> {
         begin_bar(layout.key, &mut key);
         let mut holds = key;
         let mut tick = 0;
-        // by their number: of a zip with `signs.iter_mut()` the loop's invariant knows the words that are left and not `signs`
-        for i in 0..rows.lengths.len() {
-            let row = rows.row(i);
+        // by its index: of a zip with `signs.iter_mut()` the loop's invariant knows the words that are left and not `signs` (tried in `lengths`)
+        for (i, row) in rows.enumerate() {
             signs[i] = kept_sign(sign_of(&mut holds, row.place, row.alteration));
             tick += row.length as u64;
             if tick >= layout.bar as u64 {
@@ -78,7 +77,7 @@ impl Voice<'_> {
         }
     }
 
-    /// Prints up to `count` bars of the events from where it begins on, with the signs that are given.
+    /// Prints up to `count` bars from where `begin` says, with the signs that are given.
     fn print_bars(self, signs: &[u32], begin: Begin, count: u32, out: &mut [u8]) -> usize
         requires signed { SignsFit self.rows signs.now }
         requires thirds { begin.skip % 3 ≡ 0 }
@@ -95,7 +94,7 @@ impl Voice<'_> {
         let mut begun = 0;
         let mut more = count;
         let mut skip = begin.skip;
-        // by their number, as the signs lie beside them, and to begin in the middle at once
+        // by their number: the signs lie beside them, and printing begins in the middle at once
         'events: for i in begin.event..rows.lengths.len() {
             let row = rows.row(i);
             let gone = skip.min(row.length as u64) as u32;
