@@ -1,12 +1,13 @@
 -- A player's step is what the definition of reading says of one symbol. Assumes nothing.
 use Rattle.std.proofs.Common.{◌≡◌, ℕ, zero, suc, ◌+◌, ◌-◌, ◌<◌, Bool, true, false, eqb, List, [], ◌∷◌, ◌++◌, length, set, sym, refl, ap, ◌∙◌, ap₂, append_assoc, arith}
+use Rattle.std.proofs.lemmas.List.{append-nil}
 use Rattle.std.proofs.lemmas.Bool.{and_parts, ltb-true, ne_eqb}
 use Rattle.score.specs.Music.{pick, places, Heard}
 use Rattle.score.specs.Print.{Symbol, bar, head, rest, Held, nothing, held, let_go, goes_on, longer, altered, then_holds, reads, read_from}
 use Rattle.score.proofs.Picks.{pick_false}
 use Rattle.keys.specs.Held.{key_row, held_in}
 use Rattle.keys.proofs.Holding.{held_at, held_key, held_set}
-use Rattle.reading.specs.Player.{State, can_play, lasts, said, then_held, after, after_head, ends, ends_head}
+use Rattle.reading.specs.Player.{State, can_play, lasts, said, then_held, after, after_head, ends}
 
 -- what is still to be heard by a player
 unfoldable pub to_hear : ℕ → List Symbol → State → List Heard
@@ -35,7 +36,7 @@ tied_or_ended k xs t st n true = refl
 tied_or_ended k xs t st n false = refl
 
 head_step : (k p s v : ℕ) (tied : Bool) (xs : List Symbol) (y : State) → p < places → length y.holds ≡ places →
-    to_hear k (head p s v tied ∷ xs) y ≡ ends_head p s v tied y ++ to_hear k xs (after_head p s v tied y)
+    to_hear k (head p s v tied ∷ xs) y ≡ ends (head p s v tied) y ++ to_hear k xs (after_head p s v tied y)
 unfolding to_hear reads
 head_step k p s v tied xs y h l = go (goes_on y.note p s)
   where
@@ -56,7 +57,7 @@ head_step k p s v tied xs y h l = go (goes_on y.note p s)
 pub step : (k : ℕ) (x : Symbol) (xs : List Symbol) (y : State) → can_play x ≡ true → length y.holds ≡ places → to_hear k (x ∷ xs) y ≡ ends x y ++ to_hear k xs (after k x y)
 unfolding to_hear reads
 step k bar xs y c l = ap (λ (st : ℕ → ℕ). reads k xs y.time st y.note) (sym (held_key k (key_row k) refl))
-step k (rest v) xs y c l = refl
+step k (rest v) xs y c l = ap (λ (hs : List Heard). hs ++ reads k xs (y.time + v) (held_in k y.holds) nothing) (sym (append-nil (let_go y.note)))
 step k (head p s v tied) xs y c l = head_step k p s v tied xs y (ltb-true p places (and_parts _ _ c).0) l
 
 pub time_after : (k : ℕ) (x : Symbol) (y : State) → (after k x y).time ≡ y.time + lasts x

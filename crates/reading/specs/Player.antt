@@ -45,11 +45,22 @@ after k bar y = record { time = y.time; holds = key_row k; note = y.note }
 after k (rest v) y = record { time = y.time + v; holds = y.holds; note = nothing }
 after k (head p s v tied) y = after_head p s v tied y
 
--- the notes that end by it: what is let go, and what is not tied on
-abbrev pub ends_head : ℕ → ℕ → ℕ → Bool → State → List Heard
-ends_head p s v tied y = pick (goes_on y.note p s) [] (let_go y.note) ++ pick tied [] (let_go (note_of p s v y))
+-- the notes that end by it: what was held and does not go on is let go, and then comes what is not tied on
+abbrev pub let_go_head : ℕ → ℕ → State → List Heard
+let_go_head p s y = pick (goes_on y.note p s) [] (let_go y.note)
+
+abbrev pub ended_head : ℕ → ℕ → ℕ → Bool → State → List Heard
+ended_head p s v tied y = pick tied [] (let_go (note_of p s v y))
+
+abbrev pub let_go_by : Symbol → State → List Heard
+let_go_by bar y = []
+let_go_by (rest v) y = let_go y.note
+let_go_by (head p s v tied) y = let_go_head p s y
+
+abbrev pub ended_by : Symbol → State → List Heard
+ended_by bar y = []
+ended_by (rest v) y = []
+ended_by (head p s v tied) y = ended_head p s v tied y
 
 abbrev pub ends : Symbol → State → List Heard
-ends bar y = []
-ends (rest v) y = let_go y.note
-ends (head p s v tied) y = ends_head p s v tied y
+ends x y = let_go_by x y ++ ended_by x y

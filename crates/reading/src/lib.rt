@@ -11,7 +11,7 @@ ghost use Rattle.score.specs.Spelling.{spelled_heard};
 ghost use Rattle.wire.specs.Reading.{symbol_of};
 ghost use Rattle.reading.specs.Few.{FewNotes};
 ghost use Rattle.reading.specs.Keeps.{held_meant};
-ghost use Rattle.reading.specs.Player.{said, then_held, after, after_head, ends, ends_head, lasts, can_play};
+ghost use Rattle.reading.specs.Player.{said, then_held, after, after_head, let_go_head, ended_head, let_go_by, ended_by, lasts, can_play};
 ghost use Rattle.reading.specs.Symbols.{playable, symbols_of, outcome};
 ghost use Rattle.reading.specs.Told.{state, heard_meant, notes, listed};
 
@@ -45,7 +45,7 @@ impl fmt::Display for Heard {
     }
 }
 
-/// A player one symbol later, and the notes that have ended by then: what was held, and what the symbol itself began.
+/// A player one symbol later, and the notes that have ended by then: what was held and does not go on, and the symbol's own if it is not tied on.
 #[derive(Clone, Copy, PartialEq, Eq, Debug)]
 pub struct Played {
     pub player: Player,
@@ -146,7 +146,8 @@ fn play_head(
     requires there { place < places }
     requires time { player.time + value < 2 ^ 64 }
     ensures keeps { state result.player holds.new ≡ after_head place sign value tied (state player holds.old) }
-    ensures ended { notes result.first ++ notes result.second ≡ ends_head place sign value tied (state player holds.old) }
+    ensures first { notes result.first ≡ let_go_head place sign (state player holds.old) }
+    ensures second { notes result.second ≡ ended_head place sign value tied (state player holds.old) }
 {
     let time = player.time + value as u64;
     if let Some(held) = player.held
@@ -168,7 +169,8 @@ pub fn play(player: Player, symbol: Symbol, signature: u32, holds: &mut Holds) -
     requires playable { can_play (symbol_meant symbol) ≡ true }
     requires time { player.time + lasts (symbol_meant symbol) < 2 ^ 64 }
     ensures keeps { state result.player holds.new ≡ after signature (symbol_meant symbol) (state player holds.old) }
-    ensures ended { notes result.first ++ notes result.second ≡ ends (symbol_meant symbol) (state player holds.old) }
+    ensures first { notes result.first ≡ let_go_by (symbol_meant symbol) (state player holds.old) }
+    ensures second { notes result.second ≡ ended_by (symbol_meant symbol) (state player holds.old) }
 {
     match symbol {
         Symbol::BarLine => {

@@ -1,5 +1,5 @@
 -- Each turn plays a symbol and writes down what has ended by it.
-use Rattle.std.proofs.Common.{◌≡◌, ◌<◌, [], ◌++◌, map, length, sym, ap, ◌∙◌, arith, length-drop, rules}
+use Rattle.std.proofs.Common.{◌≡◌, ◌<◌, [], ◌++◌, map, length, sym, ap, ◌∙◌, ap₂, arith, length-drop, rules}
 use Rattle.std.proofs.lemmas.List.{append-nil, take_rest}
 use Rattle.score.specs.Meaning.{symbol_meant}
 use Rattle.score.specs.Print.{read_from}
@@ -44,7 +44,8 @@ turn c =
     let s = c.in-Some.ensures.steps in
     let y = state_of c.symbols.player.0 c.symbols.player.1.0 c.symbols.holds in
     ap (λ xs. to_hear c.args.signature xs y) s
-    ∙ plays_on c.args.signature (symbol_meant c.in-Some.symbol) _ y _ c.play-played.result.first c.play-played.result.second (first_plays _ _ _ s) (omega arith) c.play-played.ensures.keeps c.play-played.ensures.ended
+    ∙ plays_on c.args.signature (symbol_meant c.in-Some.symbol) _ y _ c.play-played.result.first c.play-played.result.second (first_plays _ _ _ s) (omega arith) c.play-played.ensures.keeps
+    (ap₂ ◌++◌ c.play-played.ensures.first c.play-played.ensures.second)
 
 pub write_both-notes-requires : goal.write_both-notes-requires
 write_both-notes-requires c =
