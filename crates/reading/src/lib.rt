@@ -2,7 +2,7 @@
 #![tactic(auto)]
 
 ghost use Rattle.std.specs.Prelude.{◌≡◌, Some, ◌+◌, ◌*◌, ◌^◌, ◌<◌, ◌≤◌, true, [], ◌∷◌, ◌++◌, map, length, take, drop};
-ghost use Rattle.std.specs.Iterator.{YieldsFirstBy, item_count};
+ghost use Rattle.std.specs.Iterator.{item_count};
 ghost use Rattle.std.specs.Option.{option_map};
 ghost use Rattle.score.specs.Meaning.{symbol_meant};
 ghost use Rattle.score.specs.Music.{pick, places};
@@ -12,7 +12,7 @@ ghost use Rattle.wire.specs.Reading.{symbol_of};
 ghost use Rattle.reading.specs.Few.{FewNotes};
 ghost use Rattle.reading.specs.Keeps.{held_meant};
 ghost use Rattle.reading.specs.Player.{said, then_held, after, after_head, let_go_head, ended_head, let_go_by, ended_by, lasts, can_play};
-ghost use Rattle.reading.specs.Symbols.{playable, symbols_of, outcome};
+ghost use Rattle.reading.specs.Symbols.{playable, symbols_of, outcome, Steps};
 ghost use Rattle.reading.specs.Told.{state, heard_meant, notes, listed};
 
 use keys::{Holds, begin_bar, tone};
@@ -218,7 +218,7 @@ pub struct Symbols<'a>(pub &'a [u8]);
 impl<'a> Iterator for Symbols<'a> {
     type Item = Symbol;
 
-    ghost next_gives = { YieldsFirstBy symbol_meant (λ s. symbols_of s.0.now) };
+    ghost next_gives = { Steps };
 
     ghost remaining = { item_count (λ s. symbols_of s.0.now) };
 
@@ -253,13 +253,15 @@ fn write_both(heard: &mut [Heard], first: Option<Heard>, second: Option<Heard>) 
     at + write_note(&mut heard[at..], second)
 }
 
-/// All symbols are played, up to the first that cannot be, and the notes are written down as heard. Returns how many notes that is.
-fn play_row(bytes: &[u8], signature: u32, holds: &mut Holds, heard: &mut [Heard]) -> usize
-    requires long { length bytes.now ≤ 2 ^ 40 }
-    requires room { length (read_from signature (symbols_of bytes.now)) ≤ length heard.old }
-    ensures notes { result ≡ length (read_from signature (symbols_of bytes.now)) }
-    ensures wrote { map heard_meant (take result heard.new) ≡ read_from signature (symbols_of bytes.now) }
+/// All symbols are played, up to the first that cannot be, and the notes are written down as heard. Returns how many notes that is; the bytes that
+/// no symbol took are left.
+fn play_row(symbols: &mut Symbols, signature: u32, holds: &mut Holds, heard: &mut [Heard]) -> usize
+    requires long { length symbols.old.0.now ≤ 2 ^ 40 }
+    requires room { length (read_from signature (symbols_of symbols.old.0.now)) ≤ length heard.old }
+    ensures notes { result ≡ length (read_from signature (symbols_of symbols.old.0.now)) }
+    ensures wrote { map heard_meant (take result heard.new) ≡ read_from signature (symbols_of symbols.old.0.now) }
     ensures rest { drop result heard.new ≡ drop result heard.old }
+    ensures taken { 5 * length (symbols_of symbols.old.0.now) + length symbols.new.0.now ≡ length symbols.old.0.now }
 {
     begin_bar(signature, holds);
     let mut player = Player {
@@ -268,7 +270,8 @@ fn play_row(bytes: &[u8], signature: u32, holds: &mut Holds, heard: &mut [Heard]
     };
     // notes are written into lent memory, of which the first `notes` are taken: there is no heap here
     let mut notes = 0;
-    'symbols: for symbol in Symbols(bytes) {
+    // no `for` over `by_ref`: of the symbols that such a loop leaves, nothing is known behind it
+    'symbols: while let Some(symbol) = symbols.next() {
         let played = play(player, symbol, signature, holds);
         notes += write_both(&mut heard[notes..], played.first, played.second);
         player = played.player;
@@ -286,12 +289,13 @@ pub fn read(bytes: &[u8], signature: u32, heard: &mut [Heard]) -> Result<usize, 
     ensures rest { drop (length (read_from signature (symbols_of bytes.now))) heard.new ≡ drop (length (read_from signature (symbols_of bytes.now))) heard.old }
 {
     let mut holds = [0; PLACES];
-    let notes = play_row(bytes, signature, &mut holds, heard);
-    let reached = Symbol::SIZE * Symbols(bytes).count();
-    if reached < bytes.len() {
-        Err(reached)
-    } else {
+    let mut symbols = Symbols(bytes);
+    let notes = play_row(&mut symbols, signature, &mut holds, heard);
+    let Symbols(left) = symbols;
+    if left.is_empty() {
         Ok(notes)
+    } else {
+        Err(bytes.len() - left.len())
     }
 }
 
