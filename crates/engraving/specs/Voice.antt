@@ -1,6 +1,6 @@
--- When rows of words can be printed. Assumes nothing: these are definitions.
-use Rattle.std.specs.Prelude.{◌≡◌, ◌%◌, ◌<◌, true, length}
-use Rattle.score.specs.Music.{all_fine}
+-- When rows of words can be printed, and with which signs. Assumes nothing: these are definitions.
+use Rattle.std.specs.Prelude.{◌≡◌, ℕ, ◌%◌, ◌<◌, ◌≤◌, true, List, length, slice_index}
+use Rattle.score.specs.Music.{alterations, all_fine}
 use Rattle.score.specs.declared.Layout.{Layout}
 use Rattle.rows.specs.declared.Rows.{Rows}
 use Rattle.rows.specs.Rows.{voice_in}
@@ -12,3 +12,8 @@ pub record Ready (r : Rows) (y : Layout) : Type 0 where
   pub fine : all_fine (voice_in r) ≡ true
   pub some : 0 < y.bar
   pub thirds : y.bar % 3 ≡ 0
+
+-- signs that are given to the events of rows: each is none, or that of one of the alterations
+pub record SignsFit (r : Rows) (ss : List ℕ) : Type 0 where
+  pub same_signs : length ss ≡ length r.lengths.now
+  pub small : (i : ℕ) → slice_index ss i ≤ alterations

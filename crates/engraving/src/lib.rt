@@ -1,93 +1,122 @@
 //! A voice printed as symbols, from any bar on.
 #![tactic(auto)]
 
-ghost use Rattle.std.specs.Prelude.{◌≡◌, ◌<◌, ◌≤◌, List, ◌++◌, length, take, drop};
+ghost use Rattle.std.specs.Prelude.{◌≡◌, ◌%◌, ◌≤◌, List, ◌++◌, length, take, drop};
 ghost use Rattle.score.specs.Calls.{most_bars};
 ghost use Rattle.score.specs.Meaning.{symbol_meant};
 ghost use Rattle.score.specs.Music.{places, alterations};
 ghost use Rattle.score.specs.Print.{from_bar, so_many};
 ghost use Rattle.score.specs.Print.{Symbol as Printed};
+ghost use Rattle.laws.specs.Onsets.{signs_of};
 ghost use Rattle.laws.specs.Owed.{one};
 ghost use Rattle.wire.specs.Bytes.{symbols_bytes};
-ghost use Rattle.keys.specs.Held.{key_row, sign_number};
-ghost use Rattle.engraving.specs.Shown.{shown, page_bytes, bars_take};
+ghost use Rattle.keys.specs.Held.{sign_number};
+ghost use Rattle.engraving.specs.Shown.{shown, left_of, page_bytes, bars_take};
+ghost use Rattle.engraving.specs.Voice.{SignsFit};
 ghost use Rattle.rows.specs.Rows.{voice_in};
 
-use keys::{Holds, begin_bar, sign_of};
+use keys::{begin_bar, sign_of};
 use lengths::{ValuesOf, part_in_bar};
 use rows::Row;
 use score::{PLACES, Symbol};
 use wire::Item;
 
+mod kept;
 pub mod voice;
 
-use voice::Voice;
+use kept::Begin;
+use voice::{KeptVoice, Voice};
 
 /// The first byte of a bar line.
 const BAR_LINE: u8 = 0;
 
-/// One symbol of an event: a rest if it is a silence, else a head, with the sign that it needs.
-fn symbol_of(row: Row, sign: Option<u32>, value: u32, tied: bool) -> Symbol
+/// One symbol of an event: a rest if it is a silence, else a head, with the sign that it needs, a number as it is kept.
+fn symbol_of(row: Row, sign: u32, value: u32, tied: bool) -> Symbol
     requires place { row.place ≤ places }
-    requires sign { sign_number sign ≤ alterations }
+    requires sign { sign ≤ alterations }
     requires value { value ≤ 192 }
-    ensures { symbol_meant result ≡ one row.place (sign_number sign) value tied }
+    ensures { symbol_meant result ≡ one row.place sign value tied }
 {
     if row.is_silent() {
         return Symbol::Rest {
             value: value as u16,
         };
     }
-    // on paper, where a symbol is numbers, no sign is 0
-    let sign = match sign {
-        None => 0,
-        Some(alteration) => alteration as u8 + 1,
-    };
     Symbol::Head {
         place: row.place as u8,
-        sign,
+        sign: sign as u8,
         value: value as u16,
         tied,
     }
 }
 
+/// A sign as it is kept and as it stands on paper: a number, 0 for none, or one more than the alteration.
+fn kept_sign(sign: Option<u32>) -> u32
+    requires { sign_number sign ≤ alterations }
+    ensures { result ≡ sign_number sign }
+{
+    match sign {
+        None => 0,
+        Some(alteration) => alteration + 1,
+    }
+}
+
 impl Voice<'_> {
-    /// Prints at least one bar. At each place there holds what `holds` says: at first the key, and behind each bar line again.
-    // `from` and `count` are what `shown` takes: a struct of the two would be taken apart in each call (no plainer).
-    fn print_bars(self, from: u32, count: u32, holds: &mut Holds, out: &mut [u8]) -> usize
-        requires key { holds.old ≡ key_row self.layout.key }
-        requires some { 0 < count }
-        requires room { length (shown self.layout.key self.layout.bar (voice_in self.rows) from count) ≤ length out.old }
-        ensures wrote { out.new ≡ shown self.entry.layout.key self.entry.layout.bar (voice_in self.entry.rows) from count ++ drop result out.old }
-        ensures many { result ≡ length (shown self.entry.layout.key self.entry.layout.bar (voice_in self.entry.rows) from count) }
+    /// Writes which sign the first head of each event has, over the front of `signs`.
+    fn derive_signs(self, signs: &mut [u32])
+        requires { length self.rows.lengths.now ≤ length signs.old }
+        ensures { signs.new ≡ signs_of self.entry.layout.key self.entry.layout.bar (voice_in self.entry.rows) ++ drop (length self.entry.rows.lengths.now) signs.old }
     {
         let Voice { rows, layout } = self;
+        let mut holds = [0; PLACES];
+        begin_bar(layout.key, &mut holds);
+        let mut tick = 0;
+        // by their number: of a zip with `signs.iter_mut()` the loop's invariant knows the words that are left and not `signs`
+        for i in 0..rows.lengths.len() {
+            let row = rows.row(i);
+            signs[i] = kept_sign(sign_of(&mut holds, row.place, row.alteration));
+            tick += row.length as u64;
+            if tick >= layout.bar as u64 {
+                tick %= layout.bar as u64;
+                begin_bar(layout.key, &mut holds);
+            }
+        }
+    }
+
+    /// Prints up to `count` bars of the events from where it begins on, with the signs that are given.
+    fn print_bars(self, signs: &[u32], begin: Begin, count: u32, out: &mut [u8]) -> usize
+        requires signed { SignsFit self.rows signs.now }
+        requires thirds { begin.skip % 3 ≡ 0 }
+        requires room { length (symbols_bytes (left_of self.layout.bar (voice_in self.rows) signs.now begin.event begin.skip count)) ≤ length out.old }
+        ensures wrote { out.new ≡ symbols_bytes (left_of self.entry.layout.bar (voice_in self.entry.rows) signs.now begin.event begin.skip count) ++ drop result out.old }
+        ensures many { result ≡ length (symbols_bytes (left_of self.entry.layout.bar (voice_in self.entry.rows) signs.now begin.event begin.skip count)) }
+    {
+        let Voice { rows, layout } = self;
+        if count == 0 {
+            return 0;
+        }
         // symbols are written into lent bytes, of which the first `at` are taken: there is no heap here
         let mut at = 0;
         let mut begun = 0;
         let mut more = count;
-        let mut skip = from as u64 * layout.bar as u64;
-        // by their number: with `for row in rows`, which looks for the end of all three, a show in the middle of 65,536 events is 77 times faster than one that
-        // prints all anew, and not 100 times (docs/SPEED.md)
-        'events: for (i, length) in rows.lengths.iter().enumerate() {
-            let gone = skip.min(*length as u64) as u32;
+        let mut skip = begin.skip;
+        // by their number, as the signs lie beside them, and to begin in the middle at once
+        'events: for i in begin.event..rows.lengths.len() {
+            let row = rows.row(i);
+            let gone = skip.min(row.length as u64) as u32;
             skip -= gone as u64;
-            let mut left = *length - gone;
+            let mut left = row.length - gone;
             if left == 0 {
                 continue 'events;
             }
-            let row = rows.row(i);
-            let mut sign = if gone == 0 {
-                sign_of(holds, row.place, row.alteration)
-            } else {
-                None
-            };
+            // an event that has begun before has no sign
+            let mut sign = if gone == 0 { signs[i] } else { 0 };
             'bars: while left > 0 {
                 'values: for value in ValuesOf(part_in_bar(left, layout.bar, begun)) {
                     left -= value;
                     begun += value;
                     at += symbol_of(row, sign, value, left > 0).write(&mut out[at..]);
-                    sign = None;
+                    sign = 0;
                 }
                 if begun == layout.bar {
                     at += Symbol::BarLine.write(&mut out[at..]);
@@ -96,35 +125,49 @@ impl Voice<'_> {
                     if more == 0 {
                         break 'events;
                     }
-                    begin_bar(layout.key, holds);
                 }
             }
         }
         at
     }
 
-    /// Prints the voice from bar `from` on, up to `count` bars with their lines, over the front of `out`, and returns how many bytes that is.
-    pub fn engrave(self, from: u32, count: u32, out: &mut [u8]) -> usize
-        requires { length (shown self.layout.key self.layout.bar (voice_in self.rows) from count) ≤ length out.old }
+    /// Prints the voice from bar `from` on, up to `count` bars with their lines, over the front of `out`, and returns how many bytes that is. Its signs are
+    /// left over the front of `signs`.
+    pub fn engrave(self, signs: &mut [u32], from: u32, count: u32, out: &mut [u8]) -> usize
+        requires row { length self.rows.lengths.now ≤ length signs.old }
+        requires room { length (shown self.layout.key self.layout.bar (voice_in self.rows) from count) ≤ length out.old }
         ensures wrote { out.new ≡ shown self.entry.layout.key self.entry.layout.bar (voice_in self.entry.rows) from count ++ drop result out.old }
         ensures many { result ≡ length (shown self.entry.layout.key self.entry.layout.bar (voice_in self.entry.rows) from count) }
+        ensures left { signs.new ≡ signs_of self.entry.layout.key self.entry.layout.bar (voice_in self.entry.rows) ++ drop (length self.entry.rows.lengths.now) signs.old }
     {
-        if count == 0 {
-            return 0;
-        }
-        let mut holds = [0; PLACES];
-        begin_bar(self.layout.key, &mut holds);
-        self.print_bars(from, count, &mut holds, out)
+        self.derive_signs(signs);
+        let begin = Begin {
+            event: 0,
+            skip: from as u64 * self.layout.bar as u64,
+        };
+        self.print_bars(&signs[0..self.rows.lengths.len()], begin, count, out)
+    }
+}
+
+impl KeptVoice<'_> {
+    /// As `Voice::engrave`, by what is kept: it begins with the event that reaches bar `from`, however long the voice is.
+    pub fn engrave(self, from: u32, count: u32, out: &mut [u8]) -> usize
+        requires { length (shown self.voice.layout.key self.voice.layout.bar (voice_in self.voice.rows) from count) ≤ length out.old }
+        ensures wrote { out.new ≡ shown self.entry.voice.layout.key self.entry.voice.layout.bar (voice_in self.entry.voice.rows) from count ++ drop result out.old }
+        ensures many { result ≡ length (shown self.entry.voice.layout.key self.entry.voice.layout.bar (voice_in self.entry.voice.rows) from count) }
+    {
+        let begin = self.begin(from);
+        self.voice.print_bars(self.onsets.signs, begin, count, out)
     }
 
     // A function of its own, so that who shows a page need not know how long its bars are.
     /// As `engrave`, for bars that a score may be opened with and as many as may be shown, in bytes that are enough for any of them.
     pub fn engrave_page(self, from: u32, count: u32, out: &mut [u8]) -> usize
-        requires bar { self.layout.bar ≤ 768 }
+        requires bar { self.voice.layout.bar ≤ 768 }
         requires few { count ≤ most_bars }
         requires room { page_bytes ≤ length out.old }
-        ensures wrote { out.new ≡ shown self.entry.layout.key self.entry.layout.bar (voice_in self.entry.rows) from count ++ drop result out.old }
-        ensures many { result ≡ length (shown self.entry.layout.key self.entry.layout.bar (voice_in self.entry.rows) from count) }
+        ensures wrote { out.new ≡ shown self.entry.voice.layout.key self.entry.voice.layout.bar (voice_in self.entry.voice.rows) from count ++ drop result out.old }
+        ensures many { result ≡ length (shown self.entry.voice.layout.key self.entry.voice.layout.bar (voice_in self.entry.voice.rows) from count) }
     {
         self.engrave(from, count, out)
     }

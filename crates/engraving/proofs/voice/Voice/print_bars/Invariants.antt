@@ -1,41 +1,38 @@
-use Rattle.std.proofs.Common.{◌≡◌, ℕ, ◌+◌, ◌-◌, ◌%◌, ◌<◌, ◌≤◌, List, length}
+use Rattle.std.proofs.Common.{◌≡◌, ℕ, ◌+◌, ◌-◌, ◌%◌, ◌<◌, ◌≤◌, List, drop}
 use Rattle.score.specs.declared.Layout.{Layout}
-use Rattle.score.specs.Music.{places}
 use Rattle.score.specs.Print.{Symbol, pieces, lesser}
-use Rattle.keys.specs.Held.{sign_number}
 use Rattle.rows.specs.declared.Rows.{Rows}
-use Rattle.rows.specs.Rows.{voice_in, row_at}
-use Rattle.engraving.specs.Shown.{asked_for}
+use Rattle.rows.specs.Rows.{voice_in}
+use Rattle.engraving.specs.declared.kept.Begin.{Begin}
+use Rattle.engraving.specs.Shown.{left_of}
 use Rattle.engraving.proofs.Page.{Page}
 use Rattle.engraving.proofs.Turns.{in_event, in_voice, events_from}
 use Rattle.engraving.proofs.voice.Voice.print_bars.Given as goal
 
--- all that is asked for
-abbrev pub whole_of : Rows → Layout → ℕ → ℕ → List Symbol
-whole_of r y from n = asked_for y.key y.bar (voice_in r) from n
+-- all that is printed
+abbrev pub whole_of : Rows → Layout → List ℕ → Begin → ℕ → List Symbol
+whole_of r y ss g n = left_of y.bar (voice_in r) ss g.event g.skip n
 
 -- What is written and what is owed is the whole. The values are those of what is left in this bar, and each brings the bar as far on as the event.
 abbrev pub invariant-values : goal.invariant-values
 invariant-values l =
-    Page (whole_of l.rows l.layout l.from l.count) l.initial.out l.out l.at
-    (in_event l.layout.key l.layout.bar l.begun l.holds (row_at l.rows l.i).place (sign_number l.sign) l.left (events_from l.rows (l.i + 1)) l.more)
-    × (l.begun ≤ l.layout.bar) × (l.begun % 3 ≡ 0) × (l.left % 3 ≡ 0) × (sign_number l.sign ≤ 5) × (l.initial.at ≤ l.at)
+    Page (whole_of l.rows l.layout l.signs l.fn.begin l.count) l.initial.out l.out l.at
+    (in_event l.layout.bar l.begun l.row.place l.sign l.left (events_from l.rows (l.i + 1)) (drop (l.i + 1) l.signs) l.more)
+    × (l.begun ≤ l.layout.bar) × (l.begun % 3 ≡ 0) × (l.left % 3 ≡ 0) × (l.sign ≤ 5) × (l.initial.at ≤ l.at)
     × (pieces l.value-iterator.0 l.value-iterator.0 ≡ pieces (lesser l.left (l.layout.bar - l.begun)) (lesser l.left (l.layout.bar - l.begun)))
     × (l.begun + l.left ≡ l.initial.begun + l.initial.left)
 
 abbrev pub invariant-bars : goal.invariant-bars
 invariant-bars l =
-    Page (whole_of l.rows l.layout l.from l.count) l.initial.out l.out l.at
-    (in_event l.layout.key l.layout.bar l.begun l.holds (row_at l.rows l.i).place (sign_number l.sign) l.left (events_from l.rows (l.i + 1)) l.more)
-    × (l.begun < l.layout.bar) × (l.begun % 3 ≡ 0) × (l.left % 3 ≡ 0) × (sign_number l.sign ≤ 5) × (l.initial.at ≤ l.at) × (0 < l.more)
-    × (length l.holds ≡ places)
+    Page (whole_of l.rows l.layout l.signs l.fn.begin l.count) l.initial.out l.out l.at
+    (in_event l.layout.bar l.begun l.row.place l.sign l.left (events_from l.rows (l.i + 1)) (drop (l.i + 1) l.signs) l.more)
+    × (l.begun < l.layout.bar) × (l.begun % 3 ≡ 0) × (l.left % 3 ≡ 0) × (l.sign ≤ 5) × (l.initial.at ≤ l.at) × (0 < l.more)
 
 abbrev pub decreases-bars : goal.decreases-bars
 decreases-bars l = l.left
 
 abbrev pub invariant-events : goal.invariant-events
 invariant-events l =
-    Page (whole_of l.rows l.layout l.from l.count) l.initial.out l.out l.at
-    (in_voice l.layout.key l.layout.bar l.skip l.begun l.holds (events_from l.rows l.i) l.more)
+    Page (whole_of l.rows l.layout l.signs l.fn.begin l.count) l.initial.out l.out l.at
+    (in_voice l.layout.bar l.skip l.begun (events_from l.rows l.i) (drop l.i l.signs) l.more)
     × (l.begun < l.layout.bar) × (l.begun % 3 ≡ 0) × (0 < l.more) × (l.skip % 3 ≡ 0)
-    × (length l.holds ≡ places)
