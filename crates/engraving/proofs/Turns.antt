@@ -89,69 +89,64 @@ unfolding in_event
 no_bar b o p s d es sg n e = ap (so_many (owed b o p s d es sg)) e ∙ so_many_none (owed b o p s d es sg)
 
 -- the event whose turn it is, and those behind it
-pub record Turn (r : Rows) (i : ℕ) (w : Row) : Type 0 where
-  pub event : events_from r i ≡ event_in w ∷ events_from r (i + 1)
+pub record Turn (es : List Event) (w : Row) (fs : List Event) : Type 0 where
+  pub event : es ≡ event_in w ∷ fs
   pub words : Words w.place w.alteration w.length
-  pub others : all_fine (events_from r (i + 1)) ≡ true
+  pub others : all_fine fs ≡ true
 
-turn_at : (r : Rows) (y : Layout) (i : ℕ) → Ready r y → i < length r.lengths.now → Turn r i (row_at r i)
+pub turn_of : (es : List Event) (w : Row) (fs : List Event) → all_fine es ≡ true → es ≡ event_in w ∷ fs → Turn es w fs
 unfolding all_fine
-turn_at r y i g h =
-    let e = voice_at r.places.now r.alterations.now r.lengths.now i h g.same_places g.same_alterations in
-    let f : all_fine (event_in (row_at r i) ∷ events_from r (i + 1)) ≡ true = sym (ap all_fine e) ∙ fine_from r.places.now r.alterations.now r.lengths.now i g.fine in
-    let w = and_parts _ _ f in
-    record { event = e; words = fine_words _ _ _ w.0; others = w.1 }
+turn_of es w fs f e = let q = and_parts _ _ (sym (ap all_fine e) ∙ f) in record { event = e; words = fine_words _ _ _ q.0; others = q.1 }
 
-pub turn : (r : Rows) (y : Layout) (i : ℕ) (w : Row) → Ready r y → i < length r.lengths.now → w ≡ row_at r i → Turn r i w
-turn r y i w g h e = subst (Turn r i) (sym e) (turn_at r y i g h)
+pub turn : (r : Rows) (y : Layout) (i : ℕ) (w : Row) → Ready r y → i < length r.lengths.now → w ≡ row_at r i → Turn (events_from r i) w (events_from r (i + 1))
+turn r y i w g h e =
+    subst (λ (x : Row). Turn (events_from r i) x (events_from r (i + 1))) (sym e)
+    (turn_of _ _ _ (fine_from r.places.now r.alterations.now r.lengths.now i g.fine) (voice_at r.places.now r.alterations.now r.lengths.now i h g.same_places g.same_alterations))
 
--- the event of a turn: it is passed over, or what is left of it is owed
-this_turn : {r : Rows} {i : ℕ} {w : Row} (b t o : ℕ) (ss : List ℕ) (n : ℕ) → Turn r i w →
-    in_voice b t o (events_from r i) (drop i ss) n
-    ≡ so_many (pick (leb w.length t) (rest_from b (t - w.length) o (events_from r (i + 1)) (drop (i + 1) ss))
-    (owed b o w.place (pick (eqb t 0) (get_or ss i 0) 0) (w.length - t) (events_from r (i + 1)) (drop (i + 1) ss))) n
+-- the event of a turn, which is number i: it is passed over, or what is left of it is owed
+this_turn : {es fs : List Event} {w : Row} (b t o i : ℕ) (ss : List ℕ) (n : ℕ) → Turn es w fs →
+    in_voice b t o es (drop i ss) n
+    ≡ so_many (pick (leb w.length t) (rest_from b (t - w.length) o fs (drop (i + 1) ss))
+    (owed b o w.place (pick (eqb t 0) (get_or ss i 0) 0) (w.length - t) fs (drop (i + 1) ss))) n
 unfolding in_voice rest_from
-this_turn {r} {i} {w} b t o ss n g =
+this_turn {es} {fs} {w} b t o i ss n g =
     let z : i + 0 ≡ i = omega arith in
     let sign : get_or (drop i ss) 0 0 ≡ get_or ss i 0 = get_or-drop i ss 0 0 ∙ ap (λ (j : ℕ). get_or ss j 0) z in
-    ap (λ (es : List Event). so_many (rest_from b t o es (drop i ss)) n) g.event
-    ∙ ap₂ (λ (d p : ℕ). so_many (pick (leb d t) (rest_from b (t - d) o es (drop 1 (drop i ss))) (owed b o p (pick (eqb t 0) (get_or (drop i ss) 0 0) 0) (d - t) es (drop 1 (drop i ss)))) n)
+    ap (λ (gs : List Event). so_many (rest_from b t o gs (drop i ss)) n) g.event
+    ∙ ap₂ (λ (d p : ℕ). so_many (pick (leb d t) (rest_from b (t - d) o fs (drop 1 (drop i ss))) (owed b o p (pick (eqb t 0) (get_or (drop i ss) 0 0) 0) (d - t) fs (drop 1 (drop i ss)))) n)
     (lasts_words w.place w.alteration w.length) (place_words w.place w.alteration w.length)
-    ∙ ap₂ (λ (s : ℕ) (sg : List ℕ). so_many (pick (leb w.length t) (rest_from b (t - w.length) o es sg) (owed b o w.place (pick (eqb t 0) s 0) (w.length - t) es sg)) n)
+    ∙ ap₂ (λ (s : ℕ) (sg : List ℕ). so_many (pick (leb w.length t) (rest_from b (t - w.length) o fs sg) (owed b o w.place (pick (eqb t 0) s 0) (w.length - t) fs sg)) n)
     sign (drop-drop 1 i ss)
-  where
-    es : List Event
-    es = events_from r (i + 1)
 
 -- where g ticks of an event are gone, as many as it has of those that are to be passed over
-pub pass_turn : {r : Rows} {i : ℕ} {w : Row} (b t o g : ℕ) (ss : List ℕ) (n : ℕ) → Turn r i w → g ≡ min t w.length → w.length - g ≡ 0 →
-    in_voice b t o (events_from r i) (drop i ss) n ≡ in_voice b (t - g) o (events_from r (i + 1)) (drop (i + 1) ss) n
+pub pass_turn : {es fs : List Event} {w : Row} (b t o g i : ℕ) (ss : List ℕ) (n : ℕ) → Turn es w fs → g ≡ min t w.length → w.length - g ≡ 0 →
+    in_voice b t o es (drop i ss) n ≡ in_voice b (t - g) o fs (drop (i + 1) ss) n
 unfolding in_voice
-pass_turn {r} {i} {w} b t o g ss n q e z =
+pass_turn {es} {fs} {w} b t o g i ss n q e z =
     let y : w.length ≡ g = omega arith in
-    this_turn b t o ss n q
+    this_turn b t o i ss n q
     ∙ ap (λ (ys : List Symbol). so_many ys n) (pick_true _ _ _ (le-leb w.length t (omega arith)))
-    ∙ ap (λ (d : ℕ). so_many (rest_from b (t - d) o (events_from r (i + 1)) (drop (i + 1) ss)) n) y
+    ∙ ap (λ (d : ℕ). so_many (rest_from b (t - d) o fs (drop (i + 1) ss)) n) y
 
 -- what is left of it has the event's sign if it begins here
-reach_turn : {r : Rows} {i : ℕ} {w : Row} (b t o g : ℕ) (ss : List ℕ) (n : ℕ) → Turn r i w → g ≡ min t w.length → (w.length - g ≡ 0 → ⊥) →
-    in_voice b t o (events_from r i) (drop i ss) n ≡ in_event b o w.place (pick (eqb g 0) (get_or ss i 0) 0) (w.length - g) (events_from r (i + 1)) (drop (i + 1) ss) n
+reach_turn : {es fs : List Event} {w : Row} (b t o g i : ℕ) (ss : List ℕ) (n : ℕ) → Turn es w fs → g ≡ min t w.length → (w.length - g ≡ 0 → ⊥) →
+    in_voice b t o es (drop i ss) n ≡ in_event b o w.place (pick (eqb g 0) (get_or ss i 0) 0) (w.length - g) fs (drop (i + 1) ss) n
 unfolding in_event
-reach_turn {r} {i} {w} b t o g ss n q e z =
+reach_turn {es} {fs} {w} b t o g i ss n q e z =
     let y : t ≡ g = omega arith in
-    this_turn b t o ss n q
+    this_turn b t o i ss n q
     ∙ ap (λ (ys : List Symbol). so_many ys n) (pick_false _ _ _ (lt-leb w.length t (omega arith)))
-    ∙ ap (λ (x : ℕ). so_many (owed b o w.place (pick (eqb x 0) (get_or ss i 0) 0) (w.length - x) (events_from r (i + 1)) (drop (i + 1) ss)) n) y
+    ∙ ap (λ (x : ℕ). so_many (owed b o w.place (pick (eqb x 0) (get_or ss i 0) 0) (w.length - x) fs (drop (i + 1) ss)) n) y
 
-pub begin_turn : {r : Rows} {i : ℕ} {w : Row} (b t o g : ℕ) (ss : List ℕ) (n : ℕ) → Turn r i w → g ≡ min t w.length → (w.length - g ≡ 0 → ⊥) → g ≡ 0 →
-    in_voice b t o (events_from r i) (drop i ss) n ≡ in_event b o w.place (get_or ss i 0) (w.length - g) (events_from r (i + 1)) (drop (i + 1) ss) n
-begin_turn {r} {i} {w} b t o g ss n q e z y =
-    reach_turn b t o g ss n q e z ∙ ap (λ (s : ℕ). in_event b o w.place s (w.length - g) (events_from r (i + 1)) (drop (i + 1) ss) n) (pick_true _ _ _ (eq-eqb g 0 y))
+pub begin_turn : {es fs : List Event} {w : Row} (b t o g i : ℕ) (ss : List ℕ) (n : ℕ) → Turn es w fs → g ≡ min t w.length → (w.length - g ≡ 0 → ⊥) → g ≡ 0 →
+    in_voice b t o es (drop i ss) n ≡ in_event b o w.place (get_or ss i 0) (w.length - g) fs (drop (i + 1) ss) n
+begin_turn {es} {fs} {w} b t o g i ss n q e z y =
+    reach_turn b t o g i ss n q e z ∙ ap (λ (s : ℕ). in_event b o w.place s (w.length - g) fs (drop (i + 1) ss) n) (pick_true _ _ _ (eq-eqb g 0 y))
 
-pub middle_turn : {r : Rows} {i : ℕ} {w : Row} (b t o g : ℕ) (ss : List ℕ) (n : ℕ) → Turn r i w → g ≡ min t w.length → (w.length - g ≡ 0 → ⊥) → (g ≡ 0 → ⊥) →
-    in_voice b t o (events_from r i) (drop i ss) n ≡ in_event b o w.place 0 (w.length - g) (events_from r (i + 1)) (drop (i + 1) ss) n
-middle_turn {r} {i} {w} b t o g ss n q e z y =
-    reach_turn b t o g ss n q e z ∙ ap (λ (s : ℕ). in_event b o w.place s (w.length - g) (events_from r (i + 1)) (drop (i + 1) ss) n) (pick_false _ _ _ (ne_eqb g 0 y))
+pub middle_turn : {es fs : List Event} {w : Row} (b t o g i : ℕ) (ss : List ℕ) (n : ℕ) → Turn es w fs → g ≡ min t w.length → (w.length - g ≡ 0 → ⊥) → (g ≡ 0 → ⊥) →
+    in_voice b t o es (drop i ss) n ≡ in_event b o w.place 0 (w.length - g) fs (drop (i + 1) ss) n
+middle_turn {es} {fs} {w} b t o g i ss n q e z y =
+    reach_turn b t o g i ss n q e z ∙ ap (λ (s : ℕ). in_event b o w.place s (w.length - g) fs (drop (i + 1) ss) n) (pick_false _ _ _ (ne_eqb g 0 y))
 
 -- an event has ended, and all have
 pub end_turn : (b t o p s d : ℕ) (es : List Event) (sg : List ℕ) (n : ℕ) → all_fine es ≡ true → o < b → d ≡ 0 → t ≡ 0 → in_event b o p s d es sg n ≡ in_voice b t o es sg n

@@ -21,7 +21,7 @@ fn events_before(bars: &[u32], bar: u32) -> usize
 
 impl KeptVoice<'_> {
     /// Where printing from bar `from` on begins: with the last event that begins before it, which may reach into that bar.
-    pub fn begin(self, from: u32) -> Begin
+    pub(crate) fn begin(self, from: u32) -> Begin
         ensures { Begins self.entry.voice.rows self.entry.onsets.signs.now self.entry.voice.layout from result }
     {
         let bar = self.voice.layout.bar as u64;

@@ -68,22 +68,22 @@ impl Voice<'_> {
         ensures { signs.new ≡ signs_of self.entry.layout.key self.entry.layout.bar (voice_in self.entry.rows) ++ drop (length self.entry.rows.lengths.now) signs.old }
     {
         let Voice { rows, layout } = self;
-        let mut holds = [0; PLACES];
-        begin_bar(layout.key, &mut holds);
+        let mut key = [0; PLACES];
+        begin_bar(layout.key, &mut key);
+        let mut holds = key;
         let mut tick = 0;
-        // by their number: of a zip with `signs.iter_mut()` the loop's invariant knows the words that are left and not `signs`
-        for i in 0..rows.lengths.len() {
-            let row = rows.row(i);
+        // by its index: of a zip with `signs.iter_mut()` the loop's invariant knows the words that are left and not `signs` (tried in `lengths`)
+        for (i, row) in rows.enumerate() {
             signs[i] = kept_sign(sign_of(&mut holds, row.place, row.alteration));
             tick += row.length as u64;
             if tick >= layout.bar as u64 {
                 tick %= layout.bar as u64;
-                begin_bar(layout.key, &mut holds);
+                holds = key;
             }
         }
     }
 
-    /// Prints up to `count` bars of the events from where it begins on, with the signs that are given.
+    /// Prints up to `count` bars from where `begin` says, with the signs that are given.
     fn print_bars(self, signs: &[u32], begin: Begin, count: u32, out: &mut [u8]) -> usize
         requires signed { SignsFit self.rows signs.now }
         requires thirds { begin.skip % 3 ≡ 0 }
@@ -100,7 +100,7 @@ impl Voice<'_> {
         let mut begun = 0;
         let mut more = count;
         let mut skip = begin.skip;
-        // by their number, as the signs lie beside them, and to begin in the middle at once
+        // by their number: the signs lie beside them, and printing begins in the middle at once
         'events: for i in begin.event..rows.lengths.len() {
             let row = rows.row(i);
             let gone = skip.min(row.length as u64) as u32;

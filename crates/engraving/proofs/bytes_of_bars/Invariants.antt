@@ -1,3 +1,4 @@
+-- How far the bars are passed. Assumes nothing.
 use Rattle.std.proofs.Common.{◌≡◌, ◌+◌, ◌*◌, length}
 use Rattle.std.specs.Slice.Iter.{chunks_exact_rest, chunks_exact_size}
 use Rattle.engraving.specs.Shown.{bars_take}

@@ -1,5 +1,5 @@
 -- With the signs that were derived, what is left from the first event on is what is asked for.
-use Rattle.std.proofs.Common.{◌≡◌, ◌-◌, ◌*◌, ◌≤◌, List, length, take, sym, subst}
+use Rattle.std.proofs.Common.{◌-◌, ◌*◌, ◌≤◌, List, length, take, sym, subst}
 use Rattle.score.specs.Print.{Symbol}
 use Rattle.wire.specs.Bytes.{symbols_bytes}
 use Rattle.engraving.specs.Kept.{Begins}

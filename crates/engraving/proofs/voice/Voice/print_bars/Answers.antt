@@ -1,7 +1,6 @@
 -- Each turn of a loop writes one symbol or passes to the next event; what is owed changes as `Turns` says.
-use Rattle.std.proofs.Common.{◌≡◌, ℕ, ◌+◌, ◌-◌, ◌≤◌, ltb, List, ◌∷◌, ◌++◌, length, take, drop, sym, refl, ap, ◌∙◌, arith}
+use Rattle.std.proofs.Common.{◌≡◌, ℕ, ◌+◌, ◌-◌, List, ◌∷◌, ◌++◌, length, take, drop, sym, refl, ap, ◌∙◌, arith}
 use Rattle.score.specs.Print.{Symbol, bar, pieces, lesser}
-use Rattle.laws.specs.Owed.{one}
 use Rattle.laws.proofs.Laid.{lesser_both}
 use Rattle.wire.specs.Bytes.{symbol_bytes, symbols_bytes, each}
 use Rattle.rows.specs.Rows.{voice_in}
@@ -27,13 +26,13 @@ events-init c = (
 )
 
 -- the event of this turn
-this : (c : After-row-row) → Turn c.args.self.rows c.events.i c.row-row.result
+this : (c : After-row-row) → Turn (events_from c.args.self.rows c.events.i) c.row-row.result (events_from c.args.self.rows (c.events.i + 1))
 this c = turn c.args.self.rows c.args.self.layout c.events.i c.row-row.result c.args.self.ready c.events-test.true c.row-row.ensures
 
 pub events-preserved-then-left-eq0 : goal.events-preserved-then-left-eq0
 events-preserved-then-left-eq0 c =
     let t = this (goal.at.events-preserved-then-left-eq0 c).After-row-row in (
-      owing _ c.events.invariant.0 (pass_turn _ _ _ _ _ _ t c.min-gone.ensures c.if-left-eq0.true),
+      owing _ c.events.invariant.0 (pass_turn _ _ _ _ c.events.i c.args.signs.now c.events.more t c.min-gone.ensures c.if-left-eq0.true),
       omega arith,
       omega arith,
       omega arith,
@@ -46,7 +45,7 @@ bars-init c =
     elim c.if-gone-eq0.branch [
       | then-gone-eq0 w ↦
           simp w.sign-is (
-            enter (owing _ c.events.invariant.0 (begin_turn _ _ _ _ _ _ t c.min-gone.ensures c.if-left-eq0.false w.if-gone-eq0.true)),
+            enter (owing _ c.events.invariant.0 (begin_turn _ _ _ _ c.events.i c.args.signs.now c.events.more t c.min-gone.ensures c.if-left-eq0.false w.if-gone-eq0.true)),
             omega arith,
             omega arith,
             omega (arith, t.words.three, c.min-gone.ensures),
@@ -56,7 +55,7 @@ bars-init c =
           )
       | else-gone-eq0 w ↦
           simp w.sign-is (
-            enter (owing _ c.events.invariant.0 (middle_turn _ _ _ _ _ _ t c.min-gone.ensures c.if-left-eq0.false w.if-gone-eq0.false)),
+            enter (owing _ c.events.invariant.0 (middle_turn _ _ _ _ c.events.i c.args.signs.now c.events.more t c.min-gone.ensures c.if-left-eq0.false w.if-gone-eq0.false)),
             omega arith,
             omega arith,
             omega (arith, t.words.three, c.min-gone.ensures),

@@ -1,3 +1,4 @@
+-- What holds before each event, each bar and each value. Assumes nothing.
 use Rattle.std.proofs.Common.{◌≡◌, ℕ, ◌+◌, ◌-◌, ◌%◌, ◌<◌, ◌≤◌, List, drop}
 use Rattle.score.specs.declared.Layout.{Layout}
 use Rattle.score.specs.Print.{Symbol, pieces, lesser}
