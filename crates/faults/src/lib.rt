@@ -114,8 +114,10 @@ mod tests {
         symbols: &[Symbol],
     ) -> Result<(), Fail> {
         let mut page = [0; 4096];
+        let mut signs = [0; 8];
         let mut heard = [NOTHING; 8];
-        let back = read_back(rows, Layout { key, bar }, &mut page, &mut heard)?;
+        let layout = Layout { key, bar };
+        let back = read_back(rows, layout, &mut page, &mut signs, &mut heard)?;
         assert_eq!(rt; back.notes, notes);
         let bytes = back.bytes;
         assert!(rt; bytes <= 4096);
@@ -246,9 +248,11 @@ mod tests {
     #[test]
     fn the_reader_hears_the_voice(rt: HostRuntime) -> Result<(), Fail> {
         let mut page = [0; 4096];
+        let mut signs = [0; 4];
         let mut heard = [NOTHING; 4];
+        let layout = Layout { key: 7, bar: 192 };
         let rows = voice![(F4, SHARP, 96), (F4, SHARP, 48), (F4, PLAIN, 96)];
-        let _back = read_back(rows, Layout { key: 7, bar: 192 }, &mut page, &mut heard)?;
+        let _back = read_back(rows, layout, &mut page, &mut signs, &mut heard)?;
         assert_eq!(rt;
             heard,
             [
@@ -364,6 +368,7 @@ mod tests {
     ) -> Result<(), Fail> {
         let mut before = [0; 4096];
         let mut after = [0; 4096];
+        let mut signs = [0; 8];
         let mut heard = [NOTHING; 8];
         let layout = Layout { key: 7, bar: 192 };
         let rows = voice![
@@ -378,8 +383,8 @@ mod tests {
             (C4, PLAIN, 96),
             (D4, PLAIN, 192)
         ];
-        let _back = read_back(rows, layout, &mut before, &mut heard)?;
-        let _back = read_back(changed, layout, &mut after, &mut heard)?;
+        let _back = read_back(rows, layout, &mut before, &mut signs, &mut heard)?;
+        let _back = read_back(changed, layout, &mut after, &mut signs, &mut heard)?;
         assert!(rt;
             are(
                 bars_of(&before, 1, 1),

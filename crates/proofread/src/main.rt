@@ -143,8 +143,9 @@ impl Voice {
             length: 0,
             tone: 0,
         };
+        let mut signs = vec![in heap; 0; self.lengths.len()]?;
         let mut heard = vec![in heap; none; self.lengths.len()]?;
-        let back = read_back(self.rows(), layout, &mut page, &mut heard)?;
+        let back = read_back(self.rows(), layout, &mut page, &mut signs, &mut heard)?;
         page.truncate(back.bytes);
         heard.truncate(back.notes);
         Ok(Proof {

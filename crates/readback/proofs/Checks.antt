@@ -30,12 +30,13 @@ pub page_small : (b n : ℕ) → b ≤ 768 → n ≤ 4294967296 → page_for b n
 page_small b n h l = let m : n * (b / 3 + 1) ≤ n * 257 = mul-le-mul_left n (let k : b / 3 + 1 ≤ 257 = omega arith in k) in omega arith
 
 -- of a voice that is so many bars long
-pub record Checked (r : Rows) (y : Layout) (page notes n : ℕ) : Type 0 where
+pub record Checked (r : Rows) (y : Layout) (page signs notes n : ℕ) : Type 0 where
   pub fits : Good y
   pub ready : Ready r y
   pub short : total (voice_in r) < ticks_end
   pub bars : n ≡ bars_for y.bar (total (voice_in r))
   pub room : page_for y.bar n ≤ page
+  pub row : length r.lengths.now ≤ signs
   pub many : length r.lengths.now ≤ notes
 
 ready_of : (r : Rows) (y : Layout) → Good y → writable r ≡ true → Ready r y
@@ -47,14 +48,15 @@ ready_of r y g w =
 no_refusal : {A : Type 0} (n : ℕ) (e : Refusal) → Ok n ≡ Err e → A
 no_refusal n e h = let z : ◌≡◌ {A = ℕ} 0 1 = cc in absurd (omega arith)
 
-pub checked : (r : Rows) (y : Layout) (page notes n : ℕ) → Ok n ≡ bars_or_refusal r y page notes → Checked r y page notes n
-checked r y page notes n e = by_layout (good_layout y) refl e
+pub checked : (r : Rows) (y : Layout) (page signs notes n : ℕ) → Ok n ≡ bars_or_refusal r y page signs notes → Checked r y page signs notes n
+checked r y page signs notes n e = by_layout (good_layout y) refl e
   where
-    by_room : Good y → writable r ≡ true → ltb (total (voice_in r)) ticks_end ≡ true → (c : Bool) → (leb (page_for y.bar (bars_for y.bar (total (voice_in r)))) page && leb (length r.lengths.now) notes) ≡ c →
-        Ok n ≡ pick c (Ok (bars_for y.bar (total (voice_in r)))) (Err TooLittleMemory) → Checked r y page notes n
+    by_room : Good y → writable r ≡ true → ltb (total (voice_in r)) ticks_end ≡ true → (c : Bool) → (leb (page_for y.bar (bars_for y.bar (total (voice_in r)))) page && (leb (length r.lengths.now) signs && leb (length r.lengths.now) notes)) ≡ c →
+        Ok n ≡ pick c (Ok (bars_for y.bar (total (voice_in r)))) (Err TooLittleMemory) → Checked r y page signs notes n
     by_room g w l true t e =
         let m : n ≡ bars_for y.bar (total (voice_in r)) = cc in
         let a = and_parts _ _ t in
+        let d = and_parts _ _ a.1 in
         let p = leb-true _ _ a.0 in
         record {
           fits = g;
@@ -62,20 +64,21 @@ checked r y page notes n e = by_layout (good_layout y) refl e
           short = ltb-true _ _ l;
           bars = m;
           room = subst (λ (i : ℕ). page_for y.bar i ≤ page) (sym m) p;
-          many = leb-true _ _ a.1;
+          row = leb-true _ _ d.0;
+          many = leb-true _ _ d.1;
         }
     by_room g w l false t e = no_refusal n TooLittleMemory e
 
     by_length : Good y → writable r ≡ true → (c : Bool) → ltb (total (voice_in r)) ticks_end ≡ c →
-        Ok n ≡ in_bars y (length r.lengths.now) page notes (pick c (Ok (total (voice_in r))) (Err Full)) → Checked r y page notes n
+        Ok n ≡ in_bars y (length r.lengths.now) page signs notes (pick c (Ok (total (voice_in r))) (Err Full)) → Checked r y page signs notes n
     by_length g w true l e = by_room g w l _ refl e
     by_length g w false l e = no_refusal n Full e
 
     by_events : Good y → (c : Bool) → writable r ≡ c →
-        Ok n ≡ in_bars y (length r.lengths.now) page notes (pick c (pick (ltb (total (voice_in r)) ticks_end) (Ok (total (voice_in r))) (Err Full)) (Err OutOfRange)) → Checked r y page notes n
+        Ok n ≡ in_bars y (length r.lengths.now) page signs notes (pick c (pick (ltb (total (voice_in r)) ticks_end) (Ok (total (voice_in r))) (Err Full)) (Err OutOfRange)) → Checked r y page signs notes n
     by_events g true w e = by_length g w _ refl e
     by_events g false w e = no_refusal n OutOfRange e
 
-    by_layout : (c : Bool) → good_layout y ≡ c → Ok n ≡ pick c (in_bars y (length r.lengths.now) page notes (measured r)) (Err BadOpening) → Checked r y page notes n
+    by_layout : (c : Bool) → good_layout y ≡ c → Ok n ≡ pick c (in_bars y (length r.lengths.now) page signs notes (measured r)) (Err BadOpening) → Checked r y page signs notes n
     by_layout true g e = by_events (good y g) _ refl e
     by_layout false g e = no_refusal n BadOpening e

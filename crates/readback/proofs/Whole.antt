@@ -7,9 +7,9 @@ use Rattle.score.specs.Music.{places, alterations, Event, note, silence, Heard, 
 use Rattle.score.specs.Print.{Symbol, bar, head, rest, key, Chunk, value, line, chunks, heads, rests, print, printed, read_from, from_bar, so_many}
 use Rattle.score.proofs.Picks.{pick_false, pick_both}
 use Rattle.laws.specs.Owed.{sign_of}
-use Rattle.laws.specs.Rows.{voice_of}
 use Rattle.laws.proofs.Bars.{marks, lines, lines_print}
 use Rattle.laws.proofs.Reading.{reads_back}
+use Rattle.laws.proofs.Rows.{length_voice}
 use Rattle.wire.specs.Bytes.{symbols_bytes}
 use Rattle.wire.proofs.Rows.{length_symbols}
 use Rattle.score.specs.declared.Layout.{Layout}
@@ -76,13 +76,6 @@ few_notes [] t = omega arith
 few_notes (note p a d ∷ es) t = let i = few_notes es (t + d) in omega arith
 few_notes (silence d ∷ es) t = let i = few_notes es (t + d) in omega arith
 
-pub few_events : (ps xs ds : List ℕ) → length (voice_of ps xs ds) ≤ length ds
-unfolding voice_of
-few_events [] xs ds = omega arith
-few_events (p ∷ ps) [] ds = omega arith
-few_events (p ∷ ps) (x ∷ xs) [] = omega arith
-few_events (p ∷ ps) (x ∷ xs) (d ∷ ds) = let i = few_events ps xs ds in omega arith
-
 -- the bars of a voice are more than it fills
 pub bars_more : (b t : ℕ) → 0 < b → t < (t / b + 1) * b
 bars_more b t h = (div-lt_iff_lt-mul {x = t} h).0 (omega arith)
@@ -94,8 +87,8 @@ front_of out was bs n e l =
     ap (λ (i : ℕ). take i out) z ∙ ap (take n) e ∙ take_at bs (drop n was) n (sym l)
 
 -- how much there is to print
-pub room_for : (r : Rows) (y : Layout) (page notes n : ℕ) → Checked r y page notes n → (length (shown y.key y.bar (voice_in r) 0 n) ≤ page) × (length (shown y.key y.bar (voice_in r) 0 n) ≤ 2 ^ 40)
-room_for r y page notes n k =
+pub room_for : (r : Rows) (y : Layout) (page signs notes n : ℕ) → Checked r y page signs notes n → (length (shown y.key y.bar (voice_in r) 0 n) ≤ page) × (length (shown y.key y.bar (voice_in r) 0 n) ≤ 2 ^ 40)
+room_for r y page signs notes n k =
     let f = shown_fits y.key y.bar (voice_in r) 0 n k.ready.some k.ready.thirds k.ready.fine in
     let m : n * (y.bar / 3 + 1) ≤ n * 257 = mul-le-mul_left n (let z : y.bar / 3 + 1 ≤ 257 = omega (arith, k.fits.most) in z) in
     let d = div-le_self (total (voice_in r)) y.bar in
@@ -109,19 +102,19 @@ pub record Printed (r : Rows) (y : Layout) (page : List ℕ) : Type 0 where
   pub to_end : outcome y.key page ≡ Ok (length (heard (voice_in r) 0))
   pub few : length (read_from y.key (symbols_of page)) ≤ length r.lengths.now
 
-pub shown_is : (r : Rows) (y : Layout) (page notes n : ℕ) → Checked r y page notes n → shown y.key y.bar (voice_in r) 0 n ≡ page_of r y
-shown_is r y page notes n k =
+pub shown_is : (r : Rows) (y : Layout) (page signs notes n : ℕ) → Checked r y page signs notes n → shown y.key y.bar (voice_in r) 0 n ≡ page_of r y
+shown_is r y page signs notes n k =
     let m : total (voice_in r) < n * y.bar = subst (λ (i : ℕ). total (voice_in r) < i * y.bar) (sym k.bars) (bars_more y.bar (total (voice_in r)) k.ready.some) in
     ap symbols_bytes (whole_is y.key y.bar n (voice_in r) k.ready.some k.ready.thirds k.ready.fine m)
 
-pub printed_so : (r : Rows) (y : Layout) (page notes n : ℕ) (bs : List ℕ) → Checked r y page notes n → bs ≡ shown y.key y.bar (voice_in r) 0 n → Printed r y bs
-printed_so r y page notes n bs k e =
-    let w : bs ≡ page_of r y = e ∙ shown_is r y page notes n k in
+pub printed_so : (r : Rows) (y : Layout) (page signs notes n : ℕ) (bs : List ℕ) → Checked r y page signs notes n → bs ≡ shown y.key y.bar (voice_in r) 0 n → Printed r y bs
+printed_so r y page signs notes n bs k e =
+    let w : bs ≡ page_of r y = e ∙ shown_is r y page signs notes n k in
     let s : symbols_of bs ≡ printed y.key y.bar (voice_in r) = ap symbols_of w ∙ symbols_back (printed y.key y.bar (voice_in r)) (plays_printed y.key y.bar (voice_in r) k.ready.fine) in
     let h : read_from y.key (symbols_of bs) ≡ heard (voice_in r) 0 = ap (read_from y.key) s ∙ reads_back y.key y.bar (voice_in r) k.ready.some k.ready.thirds k.ready.fine in
     let l : length bs ≡ 5 * length (symbols_of bs) = ap length w ∙ length_symbols (printed y.key y.bar (voice_in r)) ∙ ap (λ (xs : List Symbol). 5 * length xs) (sym s) in
     let n = few_notes (voice_in r) 0 in
-    let m = few_events r.places.now r.alterations.now r.lengths.now in
+    let m = length_voice r.places.now r.alterations.now r.lengths.now k.ready.same_places k.ready.same_alterations in
     record {
       symbols = s;
       hears = h;
@@ -130,7 +123,7 @@ printed_so r y page notes n bs k e =
     }
 
 -- and what is answered then
-pub answered_so : (r : Rows) (y : Layout) (page notes n b m : ℕ) → Ok n ≡ bars_or_refusal r y page notes → b ≡ length (page_of r y) → m ≡ length (heard (voice_in r) 0) → Ok (record { bytes = b; notes = m }) ≡ answered r y page notes
-answered_so r y page notes n b m e f g =
+pub answered_so : (r : Rows) (y : Layout) (page signs notes n b m : ℕ) → Ok n ≡ bars_or_refusal r y page signs notes → b ≡ length (page_of r y) → m ≡ length (heard (voice_in r) 0) → Ok (record { bytes = b; notes = m }) ≡ answered r y page signs notes
+answered_so r y page signs notes n b m e f g =
     ap₂ (λ (i j : ℕ). unless_refused (Ok n) (record { bytes = i; notes = j })) f g
     ∙ ap (λ (q : Result ℕ Refusal). unless_refused q (record { bytes = length (page_of r y); notes = length (heard (voice_in r) 0) })) e

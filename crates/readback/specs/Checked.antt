@@ -24,12 +24,12 @@ bars_for b t = t / b + 1
 abbrev pub page_for : ℕ → ℕ → ℕ
 page_for b n = 5 * (n * (b / 3 + 1))
 
-abbrev pub in_bars : Layout → ℕ → ℕ → ℕ → Result ℕ Refusal → Result ℕ Refusal
-in_bars y many page notes (Err e) = Err e
-in_bars y many page notes (Ok t) =
-    pick (nat_le (page_for y.bar (bars_for y.bar t)) page && nat_le many notes) (Ok (bars_for y.bar t)) (Err TooLittleMemory)
+abbrev pub in_bars : Layout → ℕ → ℕ → ℕ → ℕ → Result ℕ Refusal → Result ℕ Refusal
+in_bars y many page signs notes (Err e) = Err e
+in_bars y many page signs notes (Ok t) =
+    pick (nat_le (page_for y.bar (bars_for y.bar t)) page && (nat_le many signs && nat_le many notes)) (Ok (bars_for y.bar t)) (Err TooLittleMemory)
 
--- how many bars a voice takes: first the layout is looked at, then the events, then how long they are, then the room for their print and for a
--- note of each
-abbrev pub bars_or_refusal : Rows → Layout → ℕ → ℕ → Result ℕ Refusal
-bars_or_refusal r y page notes = pick (good_layout y) (in_bars y (length r.lengths.now) page notes (measured r)) (Err BadOpening)
+-- how many bars a voice takes: first the layout is looked at, then the events, then how long they are, then the room for their print, and for a
+-- sign and a note of each
+abbrev pub bars_or_refusal : Rows → Layout → ℕ → ℕ → ℕ → Result ℕ Refusal
+bars_or_refusal r y page signs notes = pick (good_layout y) (in_bars y (length r.lengths.now) page signs notes (measured r)) (Err BadOpening)

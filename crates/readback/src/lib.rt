@@ -33,8 +33,14 @@ fn ticks_of(rows: Rows) -> Result<u32, Refusal>
 }
 
 /// How many bars the voice takes, if it can be read back: the layout is good, the events can be written, and there is room for all.
-fn bars_needed(rows: Rows, layout: Layout, page: usize, notes: usize) -> Result<u32, Refusal>
-    ensures { result ≡ bars_or_refusal rows.entry layout page notes }
+fn bars_needed(
+    rows: Rows,
+    layout: Layout,
+    page: usize,
+    signs: usize,
+    notes: usize,
+) -> Result<u32, Refusal>
+    ensures { result ≡ bars_or_refusal rows.entry layout page signs notes }
 {
     if !layout.is_good() {
         return Err(Refusal::BadOpening);
@@ -42,14 +48,15 @@ fn bars_needed(rows: Rows, layout: Layout, page: usize, notes: usize) -> Result<
     let ticks = ticks_of(rows)?;
     let bars = ticks / layout.bar + 1;
     let symbols = bars as usize * (layout.bar / SHORTEST + 1) as usize;
-    if page < Symbol::SIZE * symbols || notes < rows.lengths.len() {
+    let events = rows.lengths.len();
+    if page < Symbol::SIZE * symbols || signs < events || notes < events {
         return Err(Refusal::TooLittleMemory);
     }
     Ok(bars)
 }
 
 /// How much was printed and read: so many bytes of symbols, and so many notes.
-// Page and notes are lent, and how much of each was written is handed back: there is no heap here (a rule of the project).
+// Page, signs and notes are lent, and how much was written of page and notes is handed back: there is no heap here (a rule of the project).
 #[derive(Clone, Copy, PartialEq, Eq, Debug)]
 pub struct ReadBack {
     pub bytes: usize,
@@ -62,14 +69,15 @@ pub fn read_back(
     rows: Rows,
     layout: Layout,
     page: &mut [u8],
+    signs: &mut [u32],
     notes: &mut [Heard],
 ) -> Result<ReadBack, Refusal>
-    ensures said { result ≡ answered rows.entry layout (length page.old) (length notes.old) }
-    ensures left { MatchResult result (λ b. Back rows.entry layout b page.old page.new notes.old notes.new) (λ _. Unchanged page.old page.new notes.old notes.new) }
+    ensures said { result ≡ answered rows.entry layout (length page.old) (length signs.old) (length notes.old) }
+    ensures left { MatchResult result (λ b. Back rows.entry layout b page.old page.new signs.old signs.new notes.old notes.new) (λ _. Unchanged page.old page.new signs.old signs.new notes.old notes.new) }
 {
-    let bars = bars_needed(rows, layout, page.len(), notes.len())?;
+    let bars = bars_needed(rows, layout, page.len(), signs.len(), notes.len())?;
     let voice = Voice { rows, layout };
-    let bytes = voice.engrave(0, bars, page);
+    let bytes = voice.engrave(signs, 0, bars, page);
     let Ok(heard) = read(&page[0..bytes], layout.key, notes) else {
         unreachable()
     };
