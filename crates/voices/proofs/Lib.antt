@@ -1,3 +1,4 @@
 pub mod Each
 pub mod Found
 pub mod Onward
+pub mod Altered

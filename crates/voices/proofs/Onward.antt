@@ -171,21 +171,6 @@ module _ (w₀ w hs : List ℕ) (at bar tick m : ℕ) (d : Deriving w at bar tic
   pub no_mark : has (take (length w - m) (drop m w)) at ≡ false → w ≡ kept_anew w
   no_mark h = all_anew w at bar tick _ d (ltb-false at _ (sym (mark_there w at bar tick _ d) ∙ (ap (λ xs. has xs at) (sym lent_marks) ∙ h)))
 
--- the event ended in its bar, or over a bar line
-module _ (x : List ℕ) (at bar t k k₀ b b₀ : ℕ) (hs : List ℕ) (ek : k ≡ k₀) (eb : b ≡ b₀) (d : Deriving x at (bar + t / b) (t % b) (pick (leb b t) (key k) (held_in k hs))) where
-  pub over_line : (row : List ℕ) → b₀ ≤ t → row ≡ key_row k₀ → Deriving x at (bar + t / b₀) (t % b₀) (held_in k₀ row)
-  over_line row le er =
-      let g : pick (leb b t) (key k) (held_in k hs) ≡ held_in k₀ row = pick_true _ _ _ (le-leb b t (omega arith)) ∙ (ap key ek ∙ sym (held_key k₀ row er)) in
-      subst (λ i. Deriving x at (bar + t / i) (t % i) (held_in k₀ row)) eb (subst (λ f. Deriving x at (bar + t / b) (t % b) f) g d)
-
-  pub in_bar : t < b₀ → Deriving x at bar t (held_in k₀ hs)
-  in_bar lt =
-      let l : t < b = omega arith in
-      let g : pick (leb b t) (key k) (held_in k hs) ≡ held_in k₀ hs = pick_false _ _ _ (lt-leb b t l) ∙ ap (λ i. held_in i hs) ek in
-      let z : t / b ≡ 0 = div-eq_of_lt l in
-      let y : bar + t / b ≡ bar = omega arith in
-      subst (λ i. Deriving x at i t (held_in k₀ hs)) y (subst (λ i. Deriving x at (bar + t / b) i (held_in k₀ hs)) (mod-eq_of_lt l) (subst (λ f. Deriving x at (bar + t / b) (t % b) f) g d))
-
 -- ---- a voice whose onsets are to be derived
 
 pub record Room (w : List ℕ) (begin count : ℕ) : Type 0 where

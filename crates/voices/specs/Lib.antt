@@ -1,3 +1,4 @@
 pub mod Said
 pub mod Rows
 pub mod Regions
+pub mod Holding

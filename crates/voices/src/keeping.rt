@@ -1,22 +1,22 @@
 //! What is kept with the events, which is where each begins on paper, derived anew behind a change.
-ghost use Rattle.std.specs.Prelude.{◌≡◌, ◌+◌, ◌-◌, ◌/◌, ◌%◌, ◌^◌, ◌<◌, ◌≤◌, true, ◌⊎◌, length, take, drop, ◌≢◌, nat_le, slice_index};
+ghost use Rattle.std.specs.Prelude.{◌≡◌, ◌+◌, ◌-◌, ◌/◌, ◌%◌, ◌^◌, ◌<◌, ◌≤◌, true, ◌⊎◌, length, take, drop, ◌≢◌, slice_index};
 ghost use Rattle.score.specs.Calls.{ticks_end};
-ghost use Rattle.score.specs.Music.{pick, length_end};
+ghost use Rattle.score.specs.Music.{length_end};
 ghost use Rattle.score.specs.Print.{key};
-ghost use Rattle.keys.specs.Held.{held_in, sign_number};
+ghost use Rattle.keys.specs.Held.{held_in};
 ghost use Rattle.marks.specs.Marked.{has};
 ghost use Rattle.memory.specs.Moves.{rows_set};
 ghost use Rattle.memory.specs.Store.{words_asked, voices_in, limit_in, counts_from, bars_from, marks_from};
 ghost use Rattle.memory.specs.Words.{kept_anew, Unkept, Deriving};
+ghost use Rattle.voices.specs.Holding.{holds_in, UpTo};
 ghost use Rattle.voices.specs.Regions.{regions_in};
 ghost use Rattle.voices.specs.Rows.{row_in};
 
+use super::holding::Holding;
 use super::regions::{Regions, regions_of};
 use super::{BAR, KEY, Span};
-use keys::{Holds, begin_bar, sign_of};
 use marks::{is_marked, mark, unmark};
 use rows::Row;
-use score::PLACES;
 
 /// The first event of the bar in which the event before an index begins, or the first of all: there the key holds.
 fn first_of_bar(bars: &[u32], index: usize) -> usize
@@ -49,14 +49,6 @@ fn row_at(words: &[u32], regions: Regions, at: usize) -> Row
     }
 }
 
-/// The word of a sign: 0 for none, or one more than the alteration that it is of.
-fn sign_word(sign: Option<u32>) -> u32
-    requires { sign_number sign < 2 ^ 32 }
-    ensures { result ≡ sign_number sign }
-{
-    sign.map_or(0, |alteration| alteration + 1)
-}
-
 /// Writes where the event at a place begins: its bar, the tick of that bar, and its sign.
 fn write_onset(words: &mut [u32], regions: Regions, at: usize, bar: u32, tick: u32, sign: u32)
     requires regions { regions ≡ regions_in words.old }
@@ -70,44 +62,48 @@ fn write_onset(words: &mut [u32], regions: Regions, at: usize, bar: u32, tick: u
     words[signs + at] = sign;
 }
 
-/// Writes where the event at a place begins, takes its mark away, and returns how long the event is. What holds behind it is then in `holds`.
+/// Writes where the event at a place begins, takes its mark away, and returns how long the event is.
 fn keep_onset(
     words: &mut [u32],
     regions: Regions,
-    holds: &mut Holds,
+    holding: &mut Holding,
     at: usize,
     bar: u32,
     tick: u32,
 ) -> u32
     requires regions { regions ≡ regions_in words.old }
-    requires state { Deriving words.old at bar tick (held_in (slice_index words.old 0) holds.old) }
+    requires state { Deriving words.old at bar tick (held_in (slice_index words.old 0) (holds_in holding.old bar)) }
+    requires up_to { UpTo (slice_index words.old 0) holding.old bar }
     requires marked { has (drop (marks_from words.old) words.old) at ≡ true }
-    ensures next { Deriving words.new (at + 1) (bar + (tick + result) / slice_index words.old 1) ((tick + result) % slice_index words.old 1) (pick (nat_le (slice_index words.old 1) (tick + result)) (key (slice_index words.old 0)) (held_in (slice_index words.old 0) holds.new)) }
+    ensures next { let next = bar + (tick + result) / slice_index words.old 1 in Deriving words.new (at + 1) next ((tick + result) % slice_index words.old 1) (held_in (slice_index words.old 0) (holds_in holding.new next)) }
+    ensures up_to { UpTo (slice_index words.old 0) holding.new (bar + (tick + result) / slice_index words.old 1) }
     ensures anew { kept_anew words.new ≡ kept_anew words.old }
     ensures header { take counts_from words.new ≡ take counts_from words.old }
     ensures small { (result < length_end) × (bar < ticks_end) }
 {
     let row = row_at(words, regions, at);
-    let sign = sign_word(sign_of(holds, row.place, row.alteration));
+    let sign = holding.sign_in(bar, row.place, row.alteration);
     write_onset(words, regions, at, bar, tick, sign);
     unmark(&mut words[regions.marks..], at);
     row.length
 }
 
-/// The bar and the tick of it behind an event that ends so many ticks behind the beginning of a bar, over its line. Few events are longer than a bar, so
-/// that there is seldom something to divide.
-fn over_line(bar: u32, ticks: u32, measure: u32) -> (u32, u32)
+/// The bar and the tick of it so many ticks behind the beginning of a bar. Few events are longer than a bar, so that there is seldom something to divide.
+fn behind(bar: u32, ticks: u32, measure: u32) -> (u32, u32)
     requires positive { 0 < measure }
-    requires over { measure ≤ ticks }
     requires small { bar + ticks < 2 ^ 32 }
     ensures bar { result.0 ≡ bar + ticks / measure }
     ensures tick { result.1 ≡ ticks % measure }
 {
-    let past = ticks - measure;
-    if past < measure {
-        return (bar + 1, past);
+    if ticks / 2 >= measure {
+        return (bar + ticks / measure, ticks % measure);
     }
-    (bar + ticks / measure, ticks % measure)
+    // no branch: a processor could not foresee it
+    let over = ticks >= measure;
+    (
+        bar + over as u32,
+        if over { ticks - measure } else { ticks },
+    )
 }
 
 /// Derives anew where the marked events begin. The first of them is at a place, and begins at a tick of a bar where the key holds.
@@ -117,18 +113,11 @@ fn derive(words: &mut [u32], regions: Regions, first: usize, bar: u32, tick: u32
     ensures { words.new ≡ kept_anew words.old }
 {
     let measure = words[BAR];
-    let mut row = [0; PLACES];
-    begin_bar(words[KEY], &mut row);
-    let mut holds = row;
-    let mut at = first;
-    let mut bar = bar;
-    let mut tick = tick;
+    let mut holding = Holding::of(words[KEY], bar);
+    let (mut at, mut bar, mut tick) = (first, bar, tick);
     'events: while is_marked(&words[regions.marks..], at) {
-        tick += keep_onset(words, regions, &mut holds, at, bar, tick);
-        if tick >= measure {
-            (bar, tick) = over_line(bar, tick, measure);
-            holds = row;
-        }
+        tick += keep_onset(words, regions, &mut holding, at, bar, tick);
+        (bar, tick) = behind(bar, tick, measure);
         at += 1;
     }
 }

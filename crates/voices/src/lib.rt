@@ -11,6 +11,7 @@ ghost use Rattle.memory.specs.Words.{Holds};
 ghost use Rattle.rows.specs.Rows.{row_of};
 
 mod editing;
+mod holding;
 mod keeping;
 mod moves;
 mod reading;
