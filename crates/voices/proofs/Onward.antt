@@ -1,9 +1,8 @@
 -- One event after the other is given where it begins, as the code does it: what holds lies in a row of words. Assumes nothing.
-use Rattle.std.proofs.Common.{◌≡◌, ℕ, suc, ◌+◌, ◌-◌, ◌/◌, ◌%◌, ◌^◌, ◌<◌, ◌≤◌, Bool, true, false, leb, List, [], ◌∷◌, ◌++◌, length, get_or, take, drop, set, sym, refl, ap, ◌∙◌, subst, ap₂, mod-eq_of_lt, arith}
-use native.Mathlib.Nat.{div-eq_of_lt}
+use Rattle.std.proofs.Common.{◌≡◌, ℕ, suc, ◌+◌, ◌-◌, ◌/◌, ◌%◌, ◌^◌, ◌<◌, ◌≤◌, Bool, true, false, leb, List, [], ◌∷◌, ◌++◌, length, get_or, take, drop, set, sym, ap, ◌∙◌, subst, ap₂, arith}
 use borrow.Rule.Slice.PartMut.{put_mid}
 use Rattle.std.proofs.lemmas.List.{append-nil, drop_all, length-drop, get_or-take, take_rest}
-use Rattle.std.proofs.lemmas.Bool.{ltb-true, ltb-false, le-leb, lt-leb}
+use Rattle.std.proofs.lemmas.Bool.{ltb-true, ltb-false}
 use Rattle.score.specs.Calls.{all_events, voice, ticks_end}
 use Rattle.score.specs.Music.{pick, places, alterations, length_end, Event, silence, lasts}
 use Rattle.score.specs.Print.{key}
@@ -11,9 +10,8 @@ use Rattle.laws.specs.Onsets.{sign_at, then_held}
 use Rattle.laws.specs.Rows.{event_of}
 use Rattle.laws.proofs.Onsets.{sign_words, held_words, held_behind}
 use Rattle.laws.proofs.Rows.{lasts_words}
-use Rattle.keys.specs.Held.{key_row, held_in, sign_needed, then_holding}
-use Rattle.score.proofs.Picks.{pick_true, pick_false}
-use Rattle.keys.proofs.Holding.{held_key, needed_is, holding_is}
+use Rattle.keys.specs.Held.{held_in, sign_needed, then_holding}
+use Rattle.keys.proofs.Holding.{needed_is, holding_is}
 use Rattle.marks.specs.Marked.{has, marked}
 use Rattle.marks.proofs.Bits.{length_marked}
 use Rattle.memory.specs.Moves.{rows_set}

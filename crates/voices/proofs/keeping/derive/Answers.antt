@@ -1,14 +1,11 @@
 -- Event after event is derived, and where no mark is left, all that was to be derived is.
-use Rattle.std.proofs.Common.{◌≡◌, ℕ, ◌+◌, ◌/◌, ◌%◌, List, length, get_or, sym, refl, ap, ◌∙◌, subst, arith}
+use Rattle.std.proofs.Common.{ℕ, ◌+◌, ◌/◌, ◌%◌, List, get_or, sym, refl, ap, ◌∙◌, subst, arith}
 use Rattle.keys.specs.Held.{held_in}
 use Rattle.keys.proofs.Holding.{held_key}
 use Rattle.marks.specs.Marked.{has}
-use Rattle.memory.specs.Store.{marks_from}
 use Rattle.memory.specs.Words.{Deriving}
 use Rattle.voices.specs.declared.holding.Holding.{Holding}
 use Rattle.voices.specs.Holding.{holds_in, UpTo}
-use Rattle.voices.specs.declared.regions.Regions.{Regions}
-use Rattle.voices.specs.Regions.{regions_in}
 use Rattle.voices.proofs.Onward.{marks_is, header_word, same_regions, lent_marks, own_key, marks_long, in_limit, no_mark}
 use Rattle.voices.proofs.keeping.derive.Goals as goal
 

@@ -1,5 +1,5 @@
 -- The onset of the event is written and its mark taken away: the next one is to be derived.
-use Rattle.std.proofs.Common.{◌≡◌, ℕ, ◌+◌, ◌-◌, ◌/◌, ◌%◌, ◌^◌, ◌<◌, true, leb, List, ◌++◌, length, get_or, take, drop, set, sym, ap, ◌∙◌, subst, ap₂, arith}
+use Rattle.std.proofs.Common.{◌≡◌, ℕ, ◌+◌, ◌-◌, ◌/◌, ◌%◌, ◌<◌, true, leb, List, ◌++◌, length, get_or, take, drop, sym, ap, ◌∙◌, subst, ap₂, arith}
 use borrow.Rule.Slice.PartMut.{put_mid}
 use Rattle.std.proofs.lemmas.List.{take_rest}
 use Rattle.score.specs.Music.{pick}
@@ -10,13 +10,11 @@ use Rattle.memory.specs.Moves.{rows_set}
 use Rattle.memory.specs.Store.{limit_in, places_from, alterations_from, lengths_from, counts_from, bars_from, marks_from}
 use Rattle.memory.specs.Words.{kept_anew, Deriving}
 use Rattle.rows.specs.declared.Row.{Row}
-use Rattle.voices.specs.declared.regions.Regions.{Regions}
-use Rattle.voices.specs.Regions.{regions_in}
 use Rattle.voices.specs.Rows.{row_in}
 use Rattle.voices.specs.declared.holding.Holding.{Holding}
 use Rattle.voices.specs.Holding.{holds_in}
 use Rattle.voices.proofs.Altered.{length_holds, next_holds, up_to_later}
-use Rattle.voices.proofs.Onward.{marks_is, put_tail, within, words_small, sign_small, onset_written, unmarked, marked_yet, Onward, onward, bar_low}
+use Rattle.voices.proofs.Onward.{marks_is, put_tail, within, words_small, onset_written, unmarked, marked_yet, onward, bar_low}
 use Rattle.voices.proofs.keeping.keep_onset.Goals as goal
 use Rattle.voices.proofs.keeping.keep_onset.Goals.{After-write_onset}
 
