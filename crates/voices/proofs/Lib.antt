@@ -2,3 +2,4 @@ pub mod Each
 pub mod Found
 pub mod Onward
 pub mod Altered
+pub mod Taken

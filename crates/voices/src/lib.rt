@@ -16,6 +16,7 @@ mod keeping;
 mod moves;
 mod reading;
 mod regions;
+mod runs;
 
 pub use editing::StoredMut;
 pub use reading::Stored;
