@@ -3,3 +3,4 @@ pub mod Found
 pub mod Onward
 pub mod Altered
 pub mod Taken
+pub mod Ahead

@@ -30,9 +30,9 @@ ones n le = elim (cases_lt n 32) [
       elim (cases_lt t n) [
         | inl less ↦ absurd (let one = bit_at_ones n t less in omega (arith, sym one ∙ b.1))
         | inr at_least ↦ elim (cases_lt n t) [
-            | inl more ↦ absurd (let one = b.2 n more in omega (arith, sym one ∙ zero))
-            | inr at_most ↦ omega (arith, at_least, at_most)
-          ]
+          | inl more ↦ absurd (let one = b.2 n more in omega (arith, sym one ∙ zero))
+          | inr at_most ↦ omega (arith, at_least, at_most)
+        ]
       ]
   | inr ge ↦ let e : n ≡ 32 = omega arith in ap (λ i. trailing_ones w32 (2 ^ i - 1)) e ∙ (full ∙ sym e)
 ]

@@ -1,21 +1,20 @@
 //! What is kept with the events, which is where each begins on paper, derived anew behind a change.
-ghost use Rattle.std.specs.Prelude.{◌≡◌, ◌+◌, ◌-◌, ◌/◌, ◌%◌, ◌^◌, ◌<◌, ◌≤◌, true, ◌⊎◌, length, take, drop, ◌≢◌, slice_index};
-ghost use Rattle.score.specs.Calls.{ticks_end};
-ghost use Rattle.score.specs.Music.{length_end};
+ghost use Rattle.std.specs.Prelude.{◌≡◌, ℕ, List, ◌+◌, ◌-◌, ◌/◌, ◌%◌, ◌^◌, ◌<◌, ◌≤◌, true, ◌⊎◌, length, take, drop, ◌≢◌, slice_index};
 ghost use Rattle.score.specs.Print.{key};
 ghost use Rattle.keys.specs.Held.{held_in};
-ghost use Rattle.marks.specs.Marked.{has};
 ghost use Rattle.memory.specs.Moves.{rows_set};
 ghost use Rattle.memory.specs.Store.{words_asked, voices_in, limit_in, counts_from, bars_from, marks_from};
 ghost use Rattle.memory.specs.Words.{kept_anew, Unkept, Deriving};
+ghost use Rattle.voices.specs.Ahead.{Ahead};
 ghost use Rattle.voices.specs.Holding.{holds_in, UpTo};
 ghost use Rattle.voices.specs.Regions.{regions_in};
 ghost use Rattle.voices.specs.Rows.{row_in};
 
 use super::holding::Holding;
 use super::regions::{Regions, regions_of};
+use super::runs::take_run;
 use super::{BAR, KEY, Span};
-use marks::{is_marked, mark, unmark};
+use marks::{is_marked, mark};
 use rows::Row;
 
 /// The first event of the bar in which the event before an index begins, or the first of all: there the key holds.
@@ -62,7 +61,7 @@ fn write_onset(words: &mut [u32], regions: Regions, at: usize, bar: u32, tick: u
     words[signs + at] = sign;
 }
 
-/// Writes where the event at a place begins, takes its mark away, and returns how long the event is.
+/// Writes where the event at a place begins, and returns how long the event is. Its mark is taken already.
 fn keep_onset(
     words: &mut [u32],
     regions: Regions,
@@ -72,19 +71,16 @@ fn keep_onset(
     tick: u32,
 ) -> u32
     requires regions { regions ≡ regions_in words.old }
-    requires state { Deriving words.old at bar tick (held_in (slice_index words.old 0) (holds_in holding.old bar)) }
+    requires state { (to : ℕ) × (whole : List ℕ) × (at < to) × Ahead words.old whole at to bar tick (held_in (slice_index words.old 0) (holds_in holding.old bar)) }
     requires up_to { UpTo (slice_index words.old 0) holding.old bar }
-    requires marked { has (drop (marks_from words.old) words.old) at ≡ true }
-    ensures next { let next = bar + (tick + result) / slice_index words.old 1 in Deriving words.new (at + 1) next ((tick + result) % slice_index words.old 1) (held_in (slice_index words.old 0) (holds_in holding.new next)) }
+    ensures next { (to : ℕ) → (whole : List ℕ) → at < to → Ahead words.old whole at to bar tick (held_in (slice_index words.old 0) (holds_in holding.old bar)) → let next = bar + (tick + result) / slice_index words.old 1 in Ahead words.new whole (at + 1) to next ((tick + result) % slice_index words.old 1) (held_in (slice_index words.old 0) (holds_in holding.new next)) }
     ensures up_to { UpTo (slice_index words.old 0) holding.new (bar + (tick + result) / slice_index words.old 1) }
-    ensures anew { kept_anew words.new ≡ kept_anew words.old }
     ensures header { take counts_from words.new ≡ take counts_from words.old }
-    ensures small { (result < length_end) × (bar < ticks_end) }
+    ensures small { bar + (tick + result) < 2 ^ 32 }
 {
     let row = row_at(words, regions, at);
     let sign = holding.sign_in(bar, row.place, row.alteration);
     write_onset(words, regions, at, bar, tick, sign);
-    unmark(&mut words[regions.marks..], at);
     row.length
 }
 
@@ -115,10 +111,13 @@ fn derive(words: &mut [u32], regions: Regions, first: usize, bar: u32, tick: u32
     let measure = words[BAR];
     let mut holding = Holding::of(words[KEY], bar);
     let (mut at, mut bar, mut tick) = (first, bar, tick);
-    'events: while is_marked(&words[regions.marks..], at) {
-        tick += keep_onset(words, regions, &mut holding, at, bar, tick);
-        (bar, tick) = behind(bar, tick, measure);
-        at += 1;
+    'runs: while is_marked(&words[regions.marks..], at) {
+        let end = take_run(&mut words[regions.marks..], at);
+        'events: for event in at..end {
+            tick += keep_onset(words, regions, &mut holding, event, bar, tick);
+            (bar, tick) = behind(bar, tick, measure);
+        }
+        at = end;
     }
 }
 
