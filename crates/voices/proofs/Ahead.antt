@@ -1,7 +1,8 @@
 -- One event after the other is given where it begins while its mark is taken already: it is as if it were taken just then. Assumes nothing.
-use Rattle.std.proofs.Common.{◌≡◌, ℕ, suc, ◌+◌, ◌/◌, ◌%◌, ◌<◌, ◌≤◌, true, leb, ltb, List, ◌++◌, length, get_or, take, drop, set, sym, refl, ap, ◌∙◌, subst, ap₂, arith}
-use Rattle.std.proofs.lemmas.List.{length-append, length-take-le, get_or_append_left, get_or-take, take_at, drop_at, take-append-drop, take-append-le, set-append_left, length-set, take-set-le}
-use Rattle.std.proofs.lemmas.Bool.{lt-ltb}
+use Rattle.std.proofs.Common.{◌≡◌, ℕ, suc, ◌+◌, ◌-◌, ◌*◌, ◌/◌, ◌%◌, ◌<◌, ◌≤◌, min, true, leb, List, ◌++◌, length, get_or, take, drop, set, sym, ap, ◌∙◌, subst, ap₂, arith}
+use borrow.Rule.Slice.PartMut.{put_mid}
+use Rattle.std.proofs.lemmas.List.{length-append, length-take-le, get_or_append_left, get_or-take, take_at, drop_at, take-append-drop, take-append-le, take-take, set-append_left, length-set, take-set-le}
+use Rattle.std.proofs.lemmas.Bool.{ltb-true, lt-ltb}
 use Rattle.score.specs.Music.{pick, places, alterations, length_end}
 use Rattle.score.specs.Calls.{all_events, ticks_end}
 use Rattle.score.specs.Print.{key}
@@ -11,9 +12,9 @@ use Rattle.marks.proofs.Bits.{length_marked, marked_first, unmarked_first}
 use Rattle.memory.specs.Moves.{rows_set}
 use Rattle.memory.specs.Store.{marks_asked, words_asked, voices_in, limit_in, places_from, alterations_from, lengths_from, counts_from, bars_from, marks_from, score_of}
 use Rattle.memory.specs.Words.{kept_anew, Deriving}
-use Rattle.memory.proofs.Anew.{at_within, end_within, marks_there}
+use Rattle.memory.proofs.Anew.{at_within, end_within, marks_there, mark_there}
 use Rattle.voices.specs.Ahead.{with_marks, Ahead}
-use Rattle.voices.proofs.Onward.{header_word, within, words_small, onset_written, unmarked, Onward, onward, bar_low}
+use Rattle.voices.proofs.Onward.{put_tail, header_word, lent_marks, within, words_small, onset_written, unmarked, onward, bar_low}
 
 -- a row is written before what lies behind
 rows_left : (xs zs : List ℕ) (b n at x y z : ℕ) → b + n + n + at < length xs → rows_set (xs ++ zs) b n at x y z ≡ rows_set xs b n at x y z ++ zs
@@ -228,3 +229,36 @@ module _ (w : List ℕ) (at bar tick : ℕ) (st : ℕ → ℕ) (d : Deriving w a
         up_to = le;
         anew = ap kept_anew back;
       })
+
+-- in a loop over words that were w₀ when it began
+module _ (w₀ w hs : List ℕ) (at bar tick m : ℕ) (d : Deriving w at bar tick (held_in (get_or w₀ 0 0) hs)) (he : take counts_from w ≡ take counts_from w₀) (em : m ≡ marks_from w₀) where
+  abbrev L : List ℕ
+  L = take (length w - m) (drop m w)
+
+  abbrev E : ℕ
+  E = all_events (take d.voice_number (score_of w)) + d.to
+
+  lent_is : L ≡ marked at E (marks_asked (limit_in w))
+  lent_is = lent_marks w₀ w hs at bar tick m d he em ∙ marks_there w at bar tick _ d
+
+  long_lent : length L ≡ marks_asked (limit_in w)
+  long_lent = ap length lent_is ∙ length_marked at E (marks_asked (limit_in w))
+
+  lent_own : L ≡ marked at E (length L)
+  lent_own = lent_is ∙ ap (marked at E) (sym long_lent)
+
+  same_marks : m ≡ marks_from w
+  same_marks = omega (arith, em, header_word w w₀ 2 (omega arith) he, header_word w w₀ 3 (omega arith) he)
+
+  pub run_taken : (whole : List ℕ) → kept_anew w ≡ whole → (to : ℕ) (last : List ℕ) → ((e : ℕ) → at ≤ e → L ≡ marked at e (length L) → to ≡ min e (32 * (at / 32 + 1))) → ((e : ℕ) → at ≤ e → L ≡ marked at e (length L) → last ≡ marked to e (length L)) → has L at ≡ true →
+      Ahead (put_mid m (length w - m) w last) whole at to bar tick (held_in (get_or w₀ 0 0) hs) × (take counts_from (put_mid m (length w - m) w last) ≡ take counts_from w₀) × (at < to)
+  run_taken whole whole_is to last run rest h =
+      let le = at_within w at bar tick _ d in
+      let r = run E le lent_own in
+      let ms : List ℕ = marked to E (marks_asked (limit_in w)) in
+      let lt = ltb-true at E (sym (mark_there w at bar tick _ d) ∙ (ap (λ xs. has xs at) (sym (lent_marks w₀ w hs at bar tick m d he em)) ∙ h)) in
+      let x : take (marks_from w) w ++ ms ≡ put_mid m (length w - m) w last =
+      sym (put_tail w last m ∙ ap₂ (λ xs ys. xs ++ ys) (ap (λ i. take i w) same_marks) (rest E le lent_own ∙ ap (marked to E) long_lent)) in
+      let header : take counts_from (take (marks_from w) w ++ ms) ≡ take counts_from w =
+      take-append-le counts_from (take (marks_from w) w) ms (omega (arith, long w d.stale.size ms)) ∙ take-take counts_from (marks_from w) w (omega arith) in
+      (subst (λ i. Ahead (put_mid m (length w - m) w last) i at to bar tick (held_in (get_or w₀ 0 0) hs)) whole_is (run_begun w at bar tick _ d to (omega (arith, r)) _ x), ap (take counts_from) (sym x) ∙ (header ∙ he), omega (arith, r, lt))

@@ -1,5 +1,5 @@
 -- The marks that one word has of a range: they are the ones from its first event on, and without them the range begins behind. Assumes nothing.
-use Rattle.std.proofs.Common.{◌≡◌, ℕ, w32, suc, ◌+◌, ◌-◌, ◌*◌, ◌/◌, ◌%◌, ◌^◌, ◌<◌, ◌≤◌, ◌⊎◌, min, List, length, get_or, set, sym, refl, ap, ◌∙◌, ap₂, inl, inr, arith, pow_pos, pow_mono}
+use Rattle.std.proofs.Common.{◌≡◌, ℕ, w32, ◌+◌, ◌-◌, ◌*◌, ◌/◌, ◌%◌, ◌^◌, ◌<◌, ◌≤◌, min, get_or, set, sym, refl, ap, ◌∙◌, inl, inr, arith, pow_pos, pow_mono}
 use Rattle.std.specs.Int.{bit_at, trailing_ones}
 use lib.Count.{count_trailing_zeros}
 use lib.Pow.{high_ones}

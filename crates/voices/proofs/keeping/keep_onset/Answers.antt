@@ -1,5 +1,5 @@
 -- The onset of the event is written: the next one is to be derived.
-use Rattle.std.proofs.Common.{◌≡◌, ℕ, ◌+◌, ◌/◌, ◌%◌, ◌<◌, leb, List, get_or, take, sym, ap, ◌∙◌, subst, ap₂, arith}
+use Rattle.std.proofs.Common.{◌≡◌, ℕ, ◌+◌, ◌/◌, ◌%◌, leb, List, get_or, take, sym, ap, ◌∙◌, subst, ap₂, arith}
 use Rattle.score.specs.Music.{pick}
 use Rattle.score.specs.Print.{key}
 use Rattle.keys.specs.Held.{held_in, sign_needed, then_holding}

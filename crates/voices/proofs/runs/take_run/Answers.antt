@@ -1,8 +1,7 @@
 -- The marks of one word are taken.
-use Rattle.std.proofs.Common.{◌≡◌, ℕ, w32, ◌+◌, ◌-◌, ◌*◌, ◌/◌, ◌%◌, ◌^◌, ◌≤◌, min, List, length, get_or, set, sym, ap, ◌∙◌, arith}
+use Rattle.std.proofs.Common.{◌≡◌, ℕ, w32, ◌+◌, ◌*◌, ◌/◌, ◌%◌, ◌^◌, ◌≤◌, min, length, get_or, set, sym, ap, ◌∙◌}
 use Rattle.std.specs.Int.{trailing_ones}
 use Rattle.marks.specs.Marked.{marked}
-use Rattle.voices.proofs.Ahead.{low_bar}
 use Rattle.voices.proofs.Taken.{run_is, behind_is, rest_is}
 use Rattle.voices.proofs.runs.take_run.Goals as goal
 use Rattle.voices.proofs.runs.take_run.Goals.{After-trailing_ones-run}
