@@ -1,5 +1,5 @@
 //! What is kept with the events, which is where each begins on paper, derived anew behind a change.
-ghost use Rattle.std.specs.Prelude.{◌≡◌, ℕ, List, ◌+◌, ◌-◌, ◌/◌, ◌%◌, ◌^◌, ◌<◌, ◌≤◌, true, ◌⊎◌, length, take, drop, ◌≢◌, slice_index};
+ghost use Rattle.std.specs.Prelude.{◌≡◌, ℕ, List, ◌+◌, ◌-◌, ◌/◌, ◌%◌, ◌^◌, ◌<◌, ◌≤◌, true, ◌⊎◌, length, IfSome, take, drop, ◌≢◌, slice_index};
 ghost use Rattle.score.specs.Print.{key};
 ghost use Rattle.keys.specs.Held.{held_in};
 ghost use Rattle.memory.specs.Moves.{rows_set};
@@ -17,20 +17,26 @@ use super::{BAR, KEY, Span};
 use marks::{is_marked, mark};
 use rows::Row;
 
+/// The last event that begins in another bar.
+fn last_before(bars: &[u32], bar: u32) -> Option<usize>
+    ensures { IfSome result (λ i. (i < length bars.now) × (slice_index bars.now i ≢ bar) × ((q : ℕ) → i < q → q < length bars.now → slice_index bars.now q ≡ bar)) }
+{
+    bars.iter().rposition(|other| *other != bar)
+}
+
 /// The first event of the bar in which the event before an index begins, or the first of all: there the key holds.
 fn first_of_bar(bars: &[u32], index: usize) -> usize
     requires { index ≤ length bars.now }
     ensures before { result ≤ index }
     ensures first { (result ≡ 0) ⊎ ((0 < result) × (result < index) × (slice_index bars.now (result - 1) ≢ slice_index bars.now result)) }
 {
-    if index == 0 {
+    let [before @ .., bar] = &bars[..index] else {
         return 0;
+    };
+    match last_before(before, *bar) {
+        Some(other) => other + 1,
+        None => 0,
     }
-    let mut first = index - 1;
-    while first > 0 && bars[first - 1] == bars[first] {
-        first -= 1;
-    }
-    first
 }
 
 /// The words of the event at a place.
