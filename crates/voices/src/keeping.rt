@@ -2,20 +2,17 @@
 ghost use Rattle.std.specs.Prelude.{◌≡◌, ℕ, List, ◌+◌, ◌-◌, ◌/◌, ◌%◌, ◌^◌, ◌<◌, ◌≤◌, true, ◌⊎◌, length, IfSome, take, drop, ◌≢◌, slice_index};
 ghost use Rattle.score.specs.Print.{key};
 ghost use Rattle.keys.specs.Held.{held_in};
-ghost use Rattle.memory.specs.Moves.{rows_set};
-ghost use Rattle.memory.specs.Store.{words_asked, voices_in, limit_in, counts_from, bars_from, marks_from};
+ghost use Rattle.memory.specs.Store.{counts_from};
 ghost use Rattle.memory.specs.Words.{kept_anew, Unkept, Deriving};
 ghost use Rattle.voices.specs.Ahead.{Ahead};
 ghost use Rattle.voices.specs.Holding.{holds_in, UpTo};
 ghost use Rattle.voices.specs.Regions.{regions_in};
-ghost use Rattle.voices.specs.Rows.{row_in};
 
 use super::holding::Holding;
 use super::regions::{Regions, regions_of};
 use super::runs::take_run;
 use super::{BAR, KEY, Span};
 use marks::{is_marked, mark};
-use rows::Row;
 
 /// The last event that begins in another bar.
 fn last_before(bars: &[u32], bar: u32) -> Option<usize>
@@ -39,34 +36,6 @@ fn first_of_bar(bars: &[u32], index: usize) -> usize
     }
 }
 
-/// The words of the event at a place.
-fn row_at(words: &[u32], regions: Regions, at: usize) -> Row
-    requires regions { regions ≡ regions_in words.now }
-    requires size { length words.now ≡ words_asked (voices_in words.now) (limit_in words.now) }
-    requires within { at < limit_in words.now }
-    ensures { result ≡ row_in words.now at }
-{
-    let [places, alterations, lengths] = regions.rows;
-    Row {
-        place: words[places + at],
-        alteration: words[alterations + at],
-        length: words[lengths + at],
-    }
-}
-
-/// Writes where the event at a place begins: its bar, the tick of that bar, and its sign.
-fn write_onset(words: &mut [u32], regions: Regions, at: usize, bar: u32, tick: u32, sign: u32)
-    requires regions { regions ≡ regions_in words.old }
-    requires size { length words.old ≡ words_asked (voices_in words.old) (limit_in words.old) }
-    requires within { at < limit_in words.old }
-    ensures { words.new ≡ rows_set words.old (bars_from words.old) (limit_in words.old) at bar tick sign }
-{
-    let [bars, beats, signs] = regions.onsets;
-    words[bars + at] = bar;
-    words[beats + at] = tick;
-    words[signs + at] = sign;
-}
-
 /// Writes where the event at a place begins, and returns how long the event is. Its mark is taken already.
 fn keep_onset(
     words: &mut [u32],
@@ -84,9 +53,9 @@ fn keep_onset(
     ensures header { take counts_from words.new ≡ take counts_from words.old }
     ensures small { bar + (tick + result) < 2 ^ 32 }
 {
-    let row = row_at(words, regions, at);
+    let row = regions.row_at(words, at);
     let sign = holding.sign_in(bar, row.place, row.alteration);
-    write_onset(words, regions, at, bar, tick, sign);
+    regions.write_onset(words, at, bar, tick, sign);
     row.length
 }
 
