@@ -1,2 +1,5 @@
 pub mod Found
 pub mod Onward
+pub mod Altered
+pub mod Taken
+pub mod Ahead

@@ -1,9 +1,8 @@
 -- One event after the other is given where it begins, as the code does it: what holds lies in a row of words. Assumes nothing.
-use Rattle.std.proofs.Common.{◌≡◌, ℕ, suc, ◌+◌, ◌-◌, ◌/◌, ◌%◌, ◌^◌, ◌<◌, ◌≤◌, Bool, true, false, leb, List, [], ◌∷◌, ◌++◌, length, get_or, take, drop, set, sym, ap, ◌∙◌, subst, ap₂, mod-eq_of_lt, arith}
-use native.Mathlib.Nat.{div-eq_of_lt}
+use Rattle.std.proofs.Common.{◌≡◌, ℕ, suc, ◌+◌, ◌-◌, ◌/◌, ◌%◌, ◌^◌, ◌<◌, ◌≤◌, Bool, true, false, leb, List, [], ◌∷◌, ◌++◌, length, get_or, take, drop, set, sym, ap, ◌∙◌, subst, ap₂, arith}
 use borrow.Rule.Slice.PartMut.{put_mid}
 use Rattle.std.proofs.lemmas.List.{append-nil, drop_all, length-drop, get_or-take, take_rest}
-use Rattle.std.proofs.lemmas.Bool.{ltb-true, ltb-false, le-leb, lt-leb}
+use Rattle.std.proofs.lemmas.Bool.{ltb-true, ltb-false}
 use Rattle.score.specs.Calls.{all_events, voice, ticks_end}
 use Rattle.score.specs.Music.{pick, places, alterations, length_end, Event, silence, lasts}
 use Rattle.score.specs.Print.{key}
@@ -11,9 +10,8 @@ use Rattle.laws.specs.Onsets.{sign_at, then_held}
 use Rattle.laws.specs.Rows.{event_of}
 use Rattle.laws.proofs.Onsets.{sign_words, held_words, held_behind}
 use Rattle.laws.proofs.Rows.{lasts_words}
-use Rattle.keys.specs.Held.{key_row, held_in, sign_needed, then_holding}
-use Rattle.score.proofs.Picks.{pick_true, pick_false}
-use Rattle.keys.proofs.Holding.{held_key, needed_is, holding_is}
+use Rattle.keys.specs.Held.{held_in, sign_needed, then_holding}
+use Rattle.keys.proofs.Holding.{needed_is, holding_is}
 use Rattle.marks.specs.Marked.{has, marked}
 use Rattle.marks.proofs.Bits.{length_marked}
 use Rattle.memory.specs.Moves.{rows_set}
@@ -170,21 +168,6 @@ module _ (w₀ w hs : List ℕ) (at bar tick m : ℕ) (d : Deriving w at bar tic
   -- no mark is left
   pub no_mark : has (take (length w - m) (drop m w)) at ≡ false → w ≡ kept_anew w
   no_mark h = all_anew w at bar tick _ d (ltb-false at _ (sym (mark_there w at bar tick _ d) ∙ (ap (λ xs. has xs at) (sym lent_marks) ∙ h)))
-
--- the event ended in its bar, or over a bar line
-module _ (x : List ℕ) (at bar t k k₀ b b₀ : ℕ) (hs : List ℕ) (ek : k ≡ k₀) (eb : b ≡ b₀) (d : Deriving x at (bar + t / b) (t % b) (pick (leb b t) (key k) (held_in k hs))) where
-  pub over_line : (row : List ℕ) → b₀ ≤ t → row ≡ key_row k₀ → Deriving x at (bar + t / b₀) (t % b₀) (held_in k₀ row)
-  over_line row le er =
-      let g : pick (leb b t) (key k) (held_in k hs) ≡ held_in k₀ row = pick_true _ _ _ (le-leb b t (omega arith)) ∙ (ap key ek ∙ sym (held_key k₀ row er)) in
-      subst (λ i. Deriving x at (bar + t / i) (t % i) (held_in k₀ row)) eb (subst (λ f. Deriving x at (bar + t / b) (t % b) f) g d)
-
-  pub in_bar : t < b₀ → Deriving x at bar t (held_in k₀ hs)
-  in_bar lt =
-      let l : t < b = omega arith in
-      let g : pick (leb b t) (key k) (held_in k hs) ≡ held_in k₀ hs = pick_false _ _ _ (lt-leb b t l) ∙ ap (λ i. held_in i hs) ek in
-      let z : t / b ≡ 0 = div-eq_of_lt l in
-      let y : bar + t / b ≡ bar = omega arith in
-      subst (λ i. Deriving x at i t (held_in k₀ hs)) y (subst (λ i. Deriving x at (bar + t / b) i (held_in k₀ hs)) (mod-eq_of_lt l) (subst (λ f. Deriving x at (bar + t / b) (t % b) f) g d))
 
 -- ---- a voice whose onsets are to be derived
 

@@ -1,22 +1,25 @@
 //! What is kept with the events, which is where each begins on paper, derived anew behind a change.
-ghost use Rattle.std.specs.Prelude.{◌≡◌, ◌+◌, ◌-◌, ◌/◌, ◌%◌, ◌^◌, ◌<◌, ◌≤◌, true, ◌⊎◌, length, take, drop, ◌≢◌, nat_le, slice_index};
-ghost use Rattle.score.specs.Calls.{ticks_end};
-ghost use Rattle.score.specs.Music.{pick, length_end};
+ghost use Rattle.std.specs.Prelude.{◌≡◌, ℕ, List, ◌+◌, ◌-◌, ◌/◌, ◌%◌, ◌^◌, ◌<◌, ◌≤◌, true, ◌⊎◌, length, IfSome, take, drop, ◌≢◌, slice_index};
 ghost use Rattle.score.specs.Print.{key};
-ghost use Rattle.keys.specs.Held.{held_in, sign_number};
-ghost use Rattle.marks.specs.Marked.{has};
-ghost use Rattle.memory.specs.Moves.{rows_set};
-ghost use Rattle.memory.specs.Store.{words_asked, voices_in, limit_in, counts_from, bars_from, marks_from};
+ghost use Rattle.keys.specs.Held.{held_in};
+ghost use Rattle.memory.specs.Store.{counts_from};
 ghost use Rattle.memory.specs.Words.{kept_anew, Unkept, Deriving};
+ghost use Rattle.voices.specs.Ahead.{Ahead};
+ghost use Rattle.voices.specs.Holding.{holds_in, UpTo};
 ghost use Rattle.voices.specs.Regions.{regions_in};
-ghost use Rattle.voices.specs.Rows.{row_in};
 
+use super::holding::Holding;
 use super::regions::{Regions, regions_of};
+use super::runs::take_run;
 use super::{BAR, KEY, Span};
-use keys::{Holds, begin_bar, sign_of};
-use marks::{is_marked, mark, unmark};
-use rows::Row;
-use score::PLACES;
+use marks::{is_marked, mark};
+
+/// The last event that begins in another bar.
+fn last_before(bars: &[u32], bar: u32) -> Option<usize>
+    ensures { IfSome result (λ i. (i < length bars.now) × (slice_index bars.now i ≢ bar) × ((q : ℕ) → i < q → q < length bars.now → slice_index bars.now q ≡ bar)) }
+{
+    bars.iter().rposition(|other| *other != bar)
+}
 
 /// The first event of the bar in which the event before an index begins, or the first of all: there the key holds.
 fn first_of_bar(bars: &[u32], index: usize) -> usize
@@ -24,90 +27,54 @@ fn first_of_bar(bars: &[u32], index: usize) -> usize
     ensures before { result ≤ index }
     ensures first { (result ≡ 0) ⊎ ((0 < result) × (result < index) × (slice_index bars.now (result - 1) ≢ slice_index bars.now result)) }
 {
-    if index == 0 {
+    let [before @ .., bar] = &bars[..index] else {
         return 0;
-    }
-    let mut first = index - 1;
-    while first > 0 && bars[first - 1] == bars[first] {
-        first -= 1;
-    }
-    first
-}
-
-/// The words of the event at a place.
-fn row_at(words: &[u32], regions: Regions, at: usize) -> Row
-    requires regions { regions ≡ regions_in words.now }
-    requires size { length words.now ≡ words_asked (voices_in words.now) (limit_in words.now) }
-    requires within { at < limit_in words.now }
-    ensures { result ≡ row_in words.now at }
-{
-    let [places, alterations, lengths] = regions.rows;
-    Row {
-        place: words[places + at],
-        alteration: words[alterations + at],
-        length: words[lengths + at],
+    };
+    match last_before(before, *bar) {
+        Some(other) => other + 1,
+        None => 0,
     }
 }
 
-/// The word of a sign: 0 for none, or one more than the alteration that it is of.
-fn sign_word(sign: Option<u32>) -> u32
-    requires { sign_number sign < 2 ^ 32 }
-    ensures { result ≡ sign_number sign }
-{
-    sign.map_or(0, |alteration| alteration + 1)
-}
-
-/// Writes where the event at a place begins: its bar, the tick of that bar, and its sign.
-fn write_onset(words: &mut [u32], regions: Regions, at: usize, bar: u32, tick: u32, sign: u32)
-    requires regions { regions ≡ regions_in words.old }
-    requires size { length words.old ≡ words_asked (voices_in words.old) (limit_in words.old) }
-    requires within { at < limit_in words.old }
-    ensures { words.new ≡ rows_set words.old (bars_from words.old) (limit_in words.old) at bar tick sign }
-{
-    let [bars, beats, signs] = regions.onsets;
-    words[bars + at] = bar;
-    words[beats + at] = tick;
-    words[signs + at] = sign;
-}
-
-/// Writes where the event at a place begins, takes its mark away, and returns how long the event is. What holds behind it is then in `holds`.
+/// Writes where the event at a place begins, and returns how long the event is. Its mark is taken already.
 fn keep_onset(
     words: &mut [u32],
     regions: Regions,
-    holds: &mut Holds,
+    holding: &mut Holding,
     at: usize,
     bar: u32,
     tick: u32,
 ) -> u32
     requires regions { regions ≡ regions_in words.old }
-    requires state { Deriving words.old at bar tick (held_in (slice_index words.old 0) holds.old) }
-    requires marked { has (drop (marks_from words.old) words.old) at ≡ true }
-    ensures next { Deriving words.new (at + 1) (bar + (tick + result) / slice_index words.old 1) ((tick + result) % slice_index words.old 1) (pick (nat_le (slice_index words.old 1) (tick + result)) (key (slice_index words.old 0)) (held_in (slice_index words.old 0) holds.new)) }
-    ensures anew { kept_anew words.new ≡ kept_anew words.old }
+    requires state { (to : ℕ) × (whole : List ℕ) × (at < to) × Ahead words.old whole at to bar tick (held_in (slice_index words.old 0) (holds_in holding.old bar)) }
+    requires up_to { UpTo (slice_index words.old 0) holding.old bar }
+    ensures next { (to : ℕ) → (whole : List ℕ) → at < to → Ahead words.old whole at to bar tick (held_in (slice_index words.old 0) (holds_in holding.old bar)) → let next = bar + (tick + result) / slice_index words.old 1 in Ahead words.new whole (at + 1) to next ((tick + result) % slice_index words.old 1) (held_in (slice_index words.old 0) (holds_in holding.new next)) }
+    ensures up_to { UpTo (slice_index words.old 0) holding.new (bar + (tick + result) / slice_index words.old 1) }
     ensures header { take counts_from words.new ≡ take counts_from words.old }
-    ensures small { (result < length_end) × (bar < ticks_end) }
+    ensures small { bar + (tick + result) < 2 ^ 32 }
 {
-    let row = row_at(words, regions, at);
-    let sign = sign_word(sign_of(holds, row.place, row.alteration));
-    write_onset(words, regions, at, bar, tick, sign);
-    unmark(&mut words[regions.marks..], at);
+    let row = regions.row_at(words, at);
+    let sign = holding.sign_in(bar, row.place, row.alteration);
+    regions.write_onset(words, at, bar, tick, sign);
     row.length
 }
 
-/// The bar and the tick of it behind an event that ends so many ticks behind the beginning of a bar, over its line. Few events are longer than a bar, so
-/// that there is seldom something to divide.
-fn over_line(bar: u32, ticks: u32, measure: u32) -> (u32, u32)
+/// The bar and the tick of it so many ticks behind the beginning of a bar. Few events are longer than a bar, so that there is seldom something to divide.
+fn behind(bar: u32, ticks: u32, measure: u32) -> (u32, u32)
     requires positive { 0 < measure }
-    requires over { measure ≤ ticks }
     requires small { bar + ticks < 2 ^ 32 }
     ensures bar { result.0 ≡ bar + ticks / measure }
     ensures tick { result.1 ≡ ticks % measure }
 {
-    let past = ticks - measure;
-    if past < measure {
-        return (bar + 1, past);
+    if ticks / 2 >= measure {
+        return (bar + ticks / measure, ticks % measure);
     }
-    (bar + ticks / measure, ticks % measure)
+    // no branch: a processor could not foresee it
+    let over = ticks >= measure;
+    (
+        bar + over as u32,
+        if over { ticks - measure } else { ticks },
+    )
 }
 
 /// Derives anew where the marked events begin. The first of them is at a place, and begins at a tick of a bar where the key holds.
@@ -117,19 +84,15 @@ fn derive(words: &mut [u32], regions: Regions, first: usize, bar: u32, tick: u32
     ensures { words.new ≡ kept_anew words.old }
 {
     let measure = words[BAR];
-    let mut row = [0; PLACES];
-    begin_bar(words[KEY], &mut row);
-    let mut holds = row;
-    let mut at = first;
-    let mut bar = bar;
-    let mut tick = tick;
-    'events: while is_marked(&words[regions.marks..], at) {
-        tick += keep_onset(words, regions, &mut holds, at, bar, tick);
-        if tick >= measure {
-            (bar, tick) = over_line(bar, tick, measure);
-            holds = row;
+    let mut holding = Holding::of(words[KEY], bar);
+    let (mut at, mut bar, mut tick) = (first, bar, tick);
+    'runs: while is_marked(&words[regions.marks..], at) {
+        let end = take_run(&mut words[regions.marks..], at);
+        'events: for event in at..end {
+            tick += keep_onset(words, regions, &mut holding, event, bar, tick);
+            (bar, tick) = behind(bar, tick, measure);
         }
-        at += 1;
+        at = end;
     }
 }
 

@@ -11,10 +11,12 @@ ghost use Rattle.memory.specs.Words.{Holds};
 ghost use Rattle.rows.specs.Rows.{row_of};
 
 mod editing;
+mod holding;
 mod keeping;
 mod moves;
 mod reading;
 mod regions;
+mod runs;
 
 pub use editing::StoredMut;
 pub use reading::Stored;

@@ -2,7 +2,7 @@
 use Rattle.std.proofs.Common.{◌+◌, slice_index_or, slice_set, ap}
 use Rattle.memory.specs.Moves.{rows_set}
 use Rattle.voices.specs.declared.regions.Regions.{Regions}
-use Rattle.voices.proofs.keeping.write_onset.Goals as goal
+use Rattle.voices.proofs.regions.Regions.write_onset.Goals as goal
 
 pub returns : goal.returns
 unfolding rows_set
