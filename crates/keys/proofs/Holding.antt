@@ -1,8 +1,8 @@
 -- What holds in a bar, as words say it: at first the key, and then what is written. Assumes nothing.
 use Rattle.std.proofs.Common.{◌≡◌, ℕ, suc, ◌<◌, ◌≤◌, eqb, ltb, List, length, get_or, set, sym, refl, ap, ◌∙◌, arith}
 use mathlib.Core.Path.{fun_ext}
-use Rattle.std.proofs.lemmas.List.FromFn.{get_or-map-range_with_len}
-use Rattle.std.proofs.lemmas.List.{get_or-set_same, get_or-set_other}
+use Rattle.std.proofs.lemmas.List.FromFn.{length-map-range_with_len, get_or-map-range_with_len}
+use Rattle.std.proofs.lemmas.List.{get_or-set_same, get_or-set_other, length-set}
 use Rattle.std.proofs.lemmas.Bool.{eqb-true, eqb-false, ltb-true, lt-ltb}
 use Rattle.score.specs.Music.{pick, places}
 use Rattle.score.specs.Print.{key, now}
@@ -28,6 +28,10 @@ held_set k hs p a h l =
     (λ e. pick_true _ _ _ (lt-ltb q places (omega (arith, eqb-true q p e))) ∙ ap (λ (x : ℕ). get_or (set hs p a) x 0) (eqb-true q p e) ∙ get_or-set_same hs p a 0 l)
     (λ e. ap (λ (x : ℕ). pick (ltb q places) x (key k q)) (get_or-set_other hs p q a 0 (eqb-false q p e))))
 
+pub length_key_row : (k : ℕ) → length (key_row k) ≡ places
+unfolding key_row
+length_key_row k = length-map-range_with_len (key k) 0 places
+
 -- an event that begins, by the function that the words mean
 pub needed_is : (k : ℕ) (hs : List ℕ) (p a : ℕ) → p ≤ places → sign_needed hs p a ≡ pick (eqb p places) 0 (pick (eqb (held_in k hs p) a) 0 (suc a))
 needed_is k hs p a h =
@@ -38,3 +42,6 @@ pub holding_is : (k : ℕ) (hs : List ℕ) (p a : ℕ) → p ≤ places → leng
 holding_is k hs p a h l =
     pick_both (λ (g : ℕ → ℕ). held_in k (then_holding hs p a) ≡ g) (eqb p places) (held_in k hs) (now (held_in k hs) p a) (λ e. ap (held_in k) (pick_true _ _ _ e))
     (λ e. let n = eqb-false p places e in ap (held_in k) (pick_false _ _ _ e) ∙ held_set k hs p a (omega arith) (omega arith))
+
+pub length_holding : (hs : List ℕ) (p a : ℕ) → length (then_holding hs p a) ≡ length hs
+length_holding hs p a = pick_both (λ (ws : List ℕ). length ws ≡ length hs) (eqb p places) hs (set hs p a) (λ _. refl) (λ _. length-set hs p a)

@@ -1,5 +1,5 @@
 -- Three rows as one, and the voice that they are. Assumes nothing.
-use Rattle.std.proofs.Common.{◌≡◌, ℕ, List, [], ◌∷◌, map, length, refl, ap}
+use Rattle.std.proofs.Common.{◌≡◌, ℕ, List, [], ◌∷◌, map, length, sym, refl, ap, arith, rules}
 use Rattle.std.proofs.lemmas.List.{nil_from_length}
 use Rattle.laws.specs.Rows.{voice_of}
 use Rattle.rows.specs.Rows.{event_in, zipped}
@@ -27,3 +27,11 @@ voice_zipped [] xs ds = refl
 voice_zipped (p ∷ ps) [] ds = refl
 voice_zipped (p ∷ ps) (a ∷ xs) [] = refl
 voice_zipped (p ∷ ps) (a ∷ xs) (d ∷ ds) = ap (λ es. event_in (record { place = p; alteration = a; length = d }) ∷ es) (voice_zipped ps xs ds)
+
+-- of rows that are as long as each other there are as many events as words in each
+pub zipped_even : (ps xs ds : List ℕ) → length ps ≡ length ds → length xs ≡ length ds → length (zipped ps xs ds) ≡ length ds
+unfolding zipped
+zipped_even [] xs ds e f = rw (nil_from_length ds (sym e)) refl
+zipped_even (p ∷ ps) [] ds e f = rw (nil_from_length ds (sym f)) refl
+zipped_even (p ∷ ps) (a ∷ xs) [] e f = search (rules, arith)
+zipped_even (p ∷ ps) (a ∷ xs) (d ∷ ds) e f = grind (arith, zipped_even ps xs ds)
