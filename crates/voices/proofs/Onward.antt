@@ -1,5 +1,5 @@
 -- One event after the other is given where it begins, as the code does it: what holds lies in a row of words. Assumes nothing.
-use Rattle.std.proofs.Common.{◌≡◌, ℕ, suc, ◌+◌, ◌-◌, ◌/◌, ◌%◌, ◌^◌, ◌<◌, ◌≤◌, Bool, true, false, leb, List, [], ◌∷◌, ◌++◌, length, get_or, take, drop, set, sym, ap, ◌∙◌, subst, ap₂, arith}
+use Rattle.std.proofs.Common.{◌≡◌, ℕ, suc, ◌+◌, ◌-◌, ◌/◌, ◌%◌, ◌^◌, ◌<◌, ◌≤◌, true, false, leb, List, [], ◌∷◌, ◌++◌, length, get_or, take, drop, set, sym, ap, ◌∙◌, subst, ap₂, arith}
 use borrow.Rule.Slice.PartMut.{put_mid}
 use Rattle.std.proofs.lemmas.List.{append-nil, drop_all, length-drop, get_or-take, take_rest}
 use Rattle.std.proofs.lemmas.Bool.{ltb-true, ltb-false}
@@ -12,14 +12,14 @@ use Rattle.laws.proofs.Onsets.{sign_words, held_words, held_behind}
 use Rattle.laws.proofs.Rows.{lasts_words}
 use Rattle.keys.specs.Held.{held_in, sign_needed, then_holding}
 use Rattle.keys.proofs.Holding.{needed_is, holding_is}
-use Rattle.marks.specs.Marked.{has, marked}
+use Rattle.marks.specs.Marked.{has}
 use Rattle.marks.proofs.Bits.{length_marked}
 use Rattle.memory.specs.Moves.{rows_set}
-use Rattle.memory.specs.Store.{marks_asked, words_asked, no_marks, voices_in, limit_in, places_from, alterations_from, lengths_from, counts_from, bars_from, beats_from, marks_from, score_of}
+use Rattle.memory.specs.Store.{marks_asked, words_asked, no_marks, voices_in, limit_in, places_from, alterations_from, lengths_from, counts_from, bars_from, marks_from, score_of}
 use Rattle.memory.specs.Words.{kept_anew, Unkept, Deriving}
 use Rattle.voices.specs.declared.regions.Regions.{Regions}
 use Rattle.voices.specs.Regions.{regions_in}
-use Rattle.memory.proofs.Anew.{all_anew, end_within, at_within, marks_there, mark_there, bar_small, then_is, marks_still, next_derived, same_anew}
+use Rattle.memory.proofs.Anew.{all_anew, end_within, at_within, marks_there, mark_there, bar_small, then_is, next_derived, same_anew}
 use Rattle.memory.proofs.Scores.{voice_le}
 use Rattle.memory.proofs.Midway.{event_midway, words_midway, marks_midway}
 
@@ -34,19 +34,12 @@ module _ (regions : Regions) (w : List ℕ) (e : regions ≡ regions_in w) where
   pub bars_is : get_or regions.onsets 0 0 ≡ bars_from w
   bars_is = ap (λ (r : Regions). get_or r.onsets 0 0) e
 
-  pub beats_is : get_or regions.onsets 1 0 ≡ beats_from w
-  beats_is = ap (λ (r : Regions). get_or r.onsets 1 0) e
-
   pub marks_is : regions.marks ≡ marks_from w
   marks_is = ap (λ (r : Regions). r.marks) e
 
 -- words with the same header
 pub header_word : (x w : List ℕ) (i : ℕ) → i < counts_from → take counts_from x ≡ take counts_from w → get_or x i 0 ≡ get_or w i 0
 header_word x w i lt e = sym (get_or-take counts_from x i 0 lt) ∙ (ap (λ xs. get_or xs i 0) e ∙ get_or-take counts_from w i 0 lt)
-
-either_below : (b : Bool) (x y n : ℕ) → x < n → y < n → pick b x y < n
-either_below true x y n l r = l
-either_below false x y n l r = r
 
 -- have the same regions
 pub same_regions : (regions : Regions) (w₀ w : List ℕ) → regions ≡ regions_in w₀ → take counts_from w ≡ take counts_from w₀ → regions ≡ regions_in w
@@ -106,17 +99,6 @@ module _ (w hs : List ℕ) (at bar tick : ℕ) (d : Deriving w at bar tick (held
     pub anew : kept_anew x ≡ kept_anew w
     pub header : take counts_from x ≡ take counts_from w
 
-  pub marks_yet : drop (marks_from w) onset_written ≡ marked at end (marks_asked (limit_in w))
-  marks_yet =
-      subst (λ s. drop (marks_from w) (rows_set w (bars_from w) (limit_in w) at bar tick s) ≡ marked at end (marks_asked (limit_in w))) sign_is
-      (marks_still w at bar tick st d (event_of p a long) event_is before_end)
-
-  pub marked_yet : (at / 32 < length (drop (marks_from w) onset_written)) × (has (drop (marks_from w) onset_written) at ≡ true)
-  marked_yet = (
-    (let l = ap length marks_yet ∙ length_marked at end (marks_asked (limit_in w)) in omega (arith, within)),
-    ap (λ xs. has xs at) (marks_yet ∙ sym (marks_there w at bar tick st d)) ∙ mark,
-  )
-
   pub onward : Onward (take (marks_from w) onset_written ++ unmarked)
   onward =
       let e : Event = event_of p a long in
@@ -135,9 +117,6 @@ module _ (w hs : List ℕ) (at bar tick : ℕ) (d : Deriving w at bar tick (held
         header = subst (λ z. take counts_from (Then z) ≡ take counts_from w) sign_is (ap (take counts_from) (sym (then_is w at bar tick st d e event_is before_end)) ∙ sym (ap (take counts_from) d.stale.is));
       }
 
-  pub sign_small : sign_needed hs p a < 2 ^ 32
-  sign_small = let lt : suc a < 2 ^ 32 = omega (arith, words_small) in either_below _ 0 _ (2 ^ 32) (omega arith) (either_below _ 0 (suc a) (2 ^ 32) (omega arith) lt)
-
   pub bar_low : bar < ticks_end
   bar_low = bar_small w at bar tick st d (event_of p a long) event_is before_end
 
@@ -147,14 +126,8 @@ module _ (w₀ w hs : List ℕ) (at bar tick m : ℕ) (d : Deriving w at bar tic
   same_marks : m ≡ marks_from w
   same_marks = omega (arith, em, header_word w w₀ 2 (omega arith) he, header_word w w₀ 3 (omega arith) he)
 
-  same_key : get_or w₀ 0 0 ≡ get_or w 0 0
-  same_key = sym (header_word w w₀ 0 (omega arith) he)
-
   pub lent_marks : take (length w - m) (drop m w) ≡ drop (marks_from w) w
   lent_marks = take_rest w m ∙ ap (λ i. drop i w) same_marks
-
-  pub own_key : Deriving w at bar tick (held_in (get_or w 0 0) hs)
-  own_key = subst (λ k. Deriving w at bar tick (held_in k hs)) same_key d
 
   pub marks_long : at / 32 < length (take (length w - m) (drop m w))
   marks_long =

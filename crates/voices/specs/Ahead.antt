@@ -8,7 +8,7 @@ use Rattle.memory.specs.Words.{kept_anew, Deriving}
 abbrev pub with_marks : List ℕ → ℕ → ℕ → List ℕ
 with_marks w at end = take (marks_from w) w ++ marked at end (marks_asked (limit_in w))
 
--- The events from place `at` on are to be derived, and the marks of those before `to` are taken. If all were marked, what is kept anew would be `whole`.
+-- The events from place `at` on are to be derived, and of these the marks of those before `to` are taken already. With right onsets the words are `whole`.
 pub record Ahead (w whole : List ℕ) (at to bar tick : ℕ) (st : ℕ → ℕ) : Type 0 where
   pub end : ℕ
   pub state : Deriving (with_marks w at end) at bar tick st

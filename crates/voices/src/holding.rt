@@ -62,8 +62,7 @@ impl Holding {
         }
     }
 
-    /// The word of the sign that an event of a bar needs. From then on its alteration holds
-    /// at its place.
+    /// The word of the sign that an event of a bar needs. From then on its alteration holds at its place.
     pub(crate) fn sign_in(&mut self, bar: u32, place: u32, alteration: u32) -> u32
         requires place { place ≤ places }
         requires alteration { alteration < alterations }

@@ -104,11 +104,11 @@ pub fn keep(words: &mut [u32], span: Span, index: usize, end: usize)
     ensures { words.new ≡ kept_anew words.old }
 {
     let regions = regions_of(words);
-    let [bars, beats, _] = regions.onsets;
+    let [bars, ..] = regions.onsets;
     let first = first_of_bar(span.part_of(words, bars), index);
     let at = span.begin + first;
     let (bar, tick) = if first > 0 {
-        (words[bars + at], words[beats + at])
+        regions.onset_at(words, at)
     } else {
         (0, 0)
     };

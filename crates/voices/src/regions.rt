@@ -1,7 +1,7 @@
 //! Where the regions begin in lent words.
-ghost use Rattle.std.specs.Prelude.{◌≡◌, ◌+◌, ◌<◌, length};
+ghost use Rattle.std.specs.Prelude.{◌≡◌, ◌+◌, ◌<◌, length, slice_index};
 ghost use Rattle.memory.specs.Moves.{rows_set};
-ghost use Rattle.memory.specs.Store.{marks_asked, words_asked, voices_in, limit_in, bars_from};
+ghost use Rattle.memory.specs.Store.{marks_asked, words_asked, voices_in, limit_in, bars_from, beats_from};
 ghost use Rattle.voices.specs.Regions.{regions_in};
 ghost use Rattle.voices.specs.Rows.{row_in};
 
@@ -45,6 +45,18 @@ impl Regions {
             alteration: words[alterations + at],
             length: words[lengths + at],
         }
+    }
+
+    /// Where the event at a place begins, as it is kept: its bar, and the tick of that bar.
+    pub(crate) fn onset_at(self, words: &[u32], at: usize) -> (u32, u32)
+        requires regions { self ≡ regions_in words.now }
+        requires size { length words.now ≡ words_asked (voices_in words.now) (limit_in words.now) }
+        requires within { at < limit_in words.now }
+        ensures bar { result.0 ≡ slice_index words.now (bars_from words.now + at) }
+        ensures tick { result.1 ≡ slice_index words.now (beats_from words.now + at) }
+    {
+        let [bars, beats, _] = self.onsets;
+        (words[bars + at], words[beats + at])
     }
 
     /// Writes where the event at a place begins: its bar, the tick of that bar, and its sign.

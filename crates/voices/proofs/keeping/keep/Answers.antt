@@ -7,7 +7,7 @@ use Rattle.marks.specs.Marked.{marked}
 use Rattle.memory.specs.Store.{marks_asked, limit_in, bars_from, beats_from, marks_from}
 use Rattle.memory.specs.Words.{kept_anew, Deriving}
 use Rattle.memory.proofs.Anew.{Begins, begun}
-use Rattle.voices.proofs.Onward.{bars_is, beats_is, marks_is, put_tail, room, unmarked_yet}
+use Rattle.voices.proofs.Onward.{bars_is, marks_is, put_tail, room, unmarked_yet}
 use Rattle.voices.proofs.keeping.keep.Goals as goal
 use Rattle.voices.proofs.keeping.keep.Goals.{Joined-first-gt0, then-first-gt0, else-first-gt0}
 
@@ -23,28 +23,22 @@ first_of_bar-first-requires c =
     omega (arith, l, c.requires.range, c.requires.within)
 
 pub overflow_add-at : goal.overflow_add-at
-overflow_add-at c = let r = room _ _ _ _ _ c.requires.unkept in omega (arith, r.inside, r.size, r.few_events, r.few_voices, c.requires.range, c.requires.within, c.first_of_bar-first.ensures.before)
+overflow_add-at c = let r = room _ _ _ _ _ c.requires.unkept in omega (arith, r.inside, r.few_events, c.requires.range, c.requires.within, c.first_of_bar-first.ensures.before)
 
-pub overflow_add-bar : goal.overflow_add-bar
-overflow_add-bar c = let r = room _ _ _ _ _ c.requires.unkept in omega (arith, r.inside, r.size, r.few_events, r.few_voices, c.requires.range, c.requires.within, c.first_of_bar-first.ensures.before, bars_is _ c.args.words.now c.regions_of-regions.ensures.begins)
-
-pub offset_bounds-words-bars : goal.offset_bounds-words-bars
-offset_bounds-words-bars c = let r = room _ _ _ _ _ c.requires.unkept in omega (arith, r.inside, r.size, r.few_events, r.few_voices, c.requires.range, c.requires.within, c.first_of_bar-first.ensures.before, bars_is _ c.args.words.now c.regions_of-regions.ensures.begins)
-
-pub bounds-words-bars : goal.bounds-words-bars
-bounds-words-bars c = let r = room _ _ _ _ _ c.requires.unkept in omega (arith, r.inside, r.size, r.few_events, r.few_voices, c.requires.range, c.requires.within, c.first_of_bar-first.ensures.before, bars_is _ c.args.words.now c.regions_of-regions.ensures.begins)
-
-pub overflow_add-bar-then-first-gt0 : goal.overflow_add-bar-then-first-gt0
-overflow_add-bar-then-first-gt0 c = let r = room _ _ _ _ _ c.requires.unkept in omega (arith, r.inside, r.size, r.few_events, r.few_voices, c.requires.range, c.requires.within, c.first_of_bar-first.ensures.before, beats_is _ c.args.words.now c.regions_of-regions.ensures.begins)
-
-pub offset_bounds-words-beats : goal.offset_bounds-words-beats
-offset_bounds-words-beats c = let r = room _ _ _ _ _ c.requires.unkept in omega (arith, r.inside, r.size, r.few_events, r.few_voices, c.requires.range, c.requires.within, c.first_of_bar-first.ensures.before, beats_is _ c.args.words.now c.regions_of-regions.ensures.begins)
-
-pub bounds-words-beats : goal.bounds-words-beats
-bounds-words-beats c = let r = room _ _ _ _ _ c.requires.unkept in omega (arith, r.inside, r.size, r.few_events, r.few_voices, c.requires.range, c.requires.within, c.first_of_bar-first.ensures.before, beats_is _ c.args.words.now c.regions_of-regions.ensures.begins)
+pub onset_at-requires : goal.onset_at-requires
+onset_at-requires c =
+    let r = room _ _ _ _ _ c.requires.unkept in
+    record {
+      regions = c.regions_of-regions.ensures.begins;
+      size = r.size;
+      within = elim c.first_of_bar-first.ensures.first [
+        | inl z ↦ absurd (omega (arith, z, c.if-first-gt0.true))
+        | inr q ↦ omega (arith, q.1, r.inside, c.requires.range, c.requires.within)
+      ];
+    }
 
 pub overflow_add-span : goal.overflow_add-span
-overflow_add-span c = let r = room _ _ _ _ _ c.requires.unkept in omega (arith, r.inside, r.size, r.few_events, r.few_voices, c.requires.range, c.requires.within, c.first_of_bar-first.ensures.before)
+overflow_add-span c = let r = room _ _ _ _ _ c.requires.unkept in omega (arith, r.inside, r.few_events, c.requires.within)
 
 pub mark-requires : goal.mark-requires
 mark-requires c =
@@ -80,17 +74,8 @@ module _ (c : Joined-first-gt0) where
   in_bars : (first ≡ 0) ⊎ ((0 < first) × (first < c.args.index) × (get_or (take count (drop (bars_from w + begin) w)) (first - 1) 0 ≡ get_or (take count (drop (bars_from w + begin) w)) first 0 → ⊥))
   in_bars = subst (λ xs. (first ≡ 0) ⊎ ((0 < first) × (first < c.args.index) × (get_or xs (first - 1) 0 ≡ get_or xs first 0 → ⊥))) slice_is c.first_of_bar-first.ensures.first
 
-  later : 0 < first → Found (get_or w (get_or c.regions_of-regions.result.onsets 0 0 + (begin + first)) 0) (get_or w (get_or c.regions_of-regions.result.onsets 1 0 + (begin + first)) 0)
-  later lt = (
-    go in_bars,
-    (λ _. ap (λ i. get_or w (i + (begin + first)) 0) (bars_is _ w c.regions_of-regions.ensures.begins)),
-    (λ _. ap (λ i. get_or w (i + (begin + first)) 0) (beats_is _ w c.regions_of-regions.ensures.begins)),
-  )
-    where
-      go : (first ≡ 0) ⊎ ((0 < first) × (first < c.args.index) × (get_or (take count (drop (bars_from w + begin) w)) (first - 1) 0 ≡ get_or (take count (drop (bars_from w + begin) w)) first 0 → ⊥)) →
-          Begins (take count (drop (bars_from w + begin) w)) c.args.index first (get_or w (get_or c.regions_of-regions.result.onsets 0 0 + (begin + first)) 0) (get_or w (get_or c.regions_of-regions.result.onsets 1 0 + (begin + first)) 0)
-      go (inl z) = absurd (omega (arith, z, lt))
-      go (inr q) = inr q
+  later : (bar tick : ℕ) → 0 < first → bar ≡ get_or w (bars_from w + (begin + first)) 0 → tick ≡ get_or w (beats_from w + (begin + first)) 0 → Found bar tick
+  later bar tick lt eb et = (elim in_bars [ inl z ↦ absurd (omega (arith, z, lt)) | inr q ↦ inr q ], (λ _. eb), (λ _. et))
 
   at_once : (0 < first → ⊥) → Found 0 0
   at_once none = (inl (omega (arith, none), refl, refl), (λ lt. absurd (none lt)), (λ lt. absurd (none lt)))
@@ -98,7 +83,7 @@ module _ (c : Joined-first-gt0) where
   found : Found c.if-first-gt0.bar.0 c.if-first-gt0.bar.1
   found =
       elim c.if-first-gt0.branch [
-        | then-first-gt0 x ↦ simp x.bar-is (later x.if-first-gt0.true)
+        | then-first-gt0 x ↦ simp x.bar-is (later _ _ x.if-first-gt0.true x.onset_at.ensures.bar x.onset_at.ensures.tick)
         | else-first-gt0 x ↦ simp x.bar-is (at_once (λ lt. omega (arith, lt, x.if-first-gt0.false)))
       ]
 
