@@ -30,9 +30,13 @@ by_step k s =
     (pick (among s (take (k - 7) (3 ∷ (0 ∷ (4 ∷ (1 ∷ (5 ∷ (2 ∷ (6 ∷ []))))))))) 3 2)
     (pick (among s (take (7 - k) (6 ∷ (2 ∷ (5 ∷ (1 ∷ (4 ∷ (0 ∷ (3 ∷ []))))))))) 1 2)
 
-pub key_mod : (k p : ℕ) → key k p ≡ key k (p % 7)
+key_mod : (k p : ℕ) → key k p ≡ key k (p % 7)
 unfolding by_step
 key_mod k p = ap (by_step k) (sym (mod-mod p 7))
+
+pub key_octave : (k o s : ℕ) → s < 7 → key k s ≡ key k (7 * o + s)
+unfolding by_step
+key_octave k o s h = let e : s % 7 ≡ (7 * o + s) % 7 = omega arith in ap (by_step k) e
 
 in_range : (k p : ℕ) → k ≤ 14 → key k p ≡ by_order k (order_of p)
 unfolding key_test

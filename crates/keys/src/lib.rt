@@ -59,8 +59,11 @@ pub fn begin_bar(signature: u32, holds: &mut Holds)
     ensures { holds.new ≡ key_row signature }
 {
     let steps = alter_steps(signature);
-    for (place, held) in holds.iter_mut().enumerate() {
-        *held = steps[place % STEPS as usize];
+    // octave by octave: to ask each place for its step, which is a division, takes ten times as long
+    for octave in 0..PLACES / 7 {
+        for (step, altered) in steps.iter().enumerate() {
+            holds[7 * octave + step] = *altered;
+        }
     }
 }
 
