@@ -281,6 +281,7 @@ fn play_row(symbols: &mut Symbols, signature: u32, holds: &mut Holds, heard: &mu
 
 /// What is heard by who reads a row of symbols in a key, and knows nothing else: the notes are written down, and it is said how many they are.
 /// Where a symbol cannot be played, as its kind, place or sign is unknown or its bytes are too few, reading ends, and it is said at which byte.
+// Told is that byte, a number: an error type of its own would say no more (no plainer).
 pub fn read(bytes: &[u8], signature: u32, heard: &mut [Heard]) -> Result<usize, usize>
     requires long { length bytes.now ≤ 2 ^ 40 }
     requires room { length (read_from signature (symbols_of bytes.now)) ≤ length heard.old }

@@ -11,8 +11,8 @@ pub struct Held {
     pub long: u64,
 }
 
-/// A player: the time, and the note that is held, if there is one, which is no longer than that. What holds at each place in the bar lies in words
-/// beside it.
+/// A player: the time, and the note that is held, if there is one, which is no longer than that. What holds at each place in the bar lies beside it,
+/// since it is written in place while symbols are read.
 #[derive(Clone, Copy, PartialEq, Eq, Debug)]
 pub struct Player {
     pub time: u64,

@@ -14,7 +14,8 @@ pub use calls::{LONGEST_CALL, read_call, write_call};
 pub use items::Item;
 
 /// Writes a row over the first bytes, and returns how many that is.
-// Bytes are lent, and how many were written is handed back by each writer: there is no heap here (a rule of the project).
+// Bytes are lent, and how many were written is handed back by each writer: there is no heap here (a rule of the project). That and what was written are two
+// clauses in each contract, since callers use them one by one (no plainer as one).
 fn write_row(out: &mut [u8], row: &[u8]) -> usize
     requires { length row.now ≤ length out.old }
     ensures wrote { out.new ≡ row.now ++ drop result out.old }
