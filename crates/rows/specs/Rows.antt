@@ -1,5 +1,6 @@
 -- What three words, and three rows of words, mean. Assumes nothing: these are definitions.
-use Rattle.std.specs.Prelude.{◌≡◌, ℕ, Bool, true, false, ◌&&◌, ◌||◌, List, [], ◌∷◌, Result, MatchResult, ◌==◌, nat_lt, slice_index}
+use Rattle.std.specs.Prelude.{◌≡◌, ℕ, Bool, true, false, ◌&&◌, ◌||◌, List, [], ◌∷◌, length, Option, Result, MatchResult, ◌==◌, nat_lt, slice_index}
+use Rattle.std.specs.Iterator.{YieldsFirst}
 use Rattle.score.specs.declared.Event.{Event as EventType}
 use Rattle.score.specs.Music.{Event, note, silence, lasts, places, length_end}
 use Rattle.score.specs.Meaning.{event_meant}
@@ -41,6 +42,14 @@ zipped (p ∷ ps) (a ∷ xs) (d ∷ ds) = record { place = p; alteration = a; le
 -- the words of the event of an index
 abbrev pub row_at : Rows → ℕ → Row
 row_at r i = record { place = slice_index r.places.now i; alteration = slice_index r.alterations.now i; length = slice_index r.lengths.now i }
+
+-- rows of one length
+abbrev pub IsEven : Rows → Type 0
+IsEven r = (length r.alterations.now ≡ length r.places.now) × (length r.lengths.now ≡ length r.places.now)
+
+-- one step along rows: the first event of what was left comes, and rows of one length stay so
+abbrev pub Steps : Rows → Option Row → Rows → Type 0
+Steps r o rest = YieldsFirst (λ s. zipped s.places.now s.alterations.now s.lengths.now) r o rest × (IsEven r → IsEven rest)
 
 -- the voice in three rows
 abbrev pub voice_in : Rows → List Event

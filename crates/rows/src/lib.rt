@@ -2,10 +2,10 @@
 #![tactic(auto)]
 
 ghost use Rattle.std.specs.Prelude.{◌≡◌, ◌==◌, ◌<◌, length};
-ghost use Rattle.std.specs.Iterator.{YieldsFirst, item_count};
+ghost use Rattle.std.specs.Iterator.{item_count};
 ghost use Rattle.score.specs.Meaning.{event_meant};
 ghost use Rattle.score.specs.Music.{fine, fine_length, places};
-ghost use Rattle.rows.specs.Rows.{event_in, row_of, row_at, zipped, IfFits};
+ghost use Rattle.rows.specs.Rows.{event_in, row_of, row_at, zipped, IfFits, Steps};
 
 use score::{ALTERATIONS, Event, LENGTH_END, SHORTEST, SILENT};
 use std::num::TryFromIntError;
@@ -113,7 +113,7 @@ impl Rows<'_> {
 impl Iterator for Rows<'_> {
     type Item = Row;
 
-    ghost next_gives = { YieldsFirst (λ r. zipped r.places.now r.alterations.now r.lengths.now) };
+    ghost next_gives = { Steps };
 
     ghost remaining = { item_count (λ r. zipped r.places.now r.alterations.now r.lengths.now) };
 

@@ -15,9 +15,10 @@ use Rattle.laws.proofs.Rows.{lasts_words}
 use Rattle.rows.specs.declared.Row.{Row}
 use Rattle.rows.specs.declared.Rows.{Rows}
 use Rattle.rows.specs.Rows.{event_in, voice_in, zipped}
+use Rattle.rows.specs.Rows.{Steps as Stepped}
 use Rattle.rows.proofs.Zipped.{voice_zipped}
 use Rattle.sounds.specs.Rows.{heard_at}
-use Rattle.sounds.specs.Single.{rows_yet, events_yet, heard_yet, Playable, IsEven, Steps}
+use Rattle.sounds.specs.Single.{rows_yet, events_yet, heard_yet, Playable, Steps}
 use Rattle.sounds.specs.declared.single.Notes.{Notes}
 use Rattle.sounds.proofs.Parts.{note_fields}
 
@@ -47,9 +48,10 @@ pub record Came (n : Notes) (r : Row) (rest : Rows) : Type 0 where
   pub fields : (r.place == places) ≡ false → (r.place < places) × (r.alteration < alterations) × (r.length < length_end)
   pub gives : (x : Sound) → (r.place == places) ≡ false → sound_meant x ≡ (n.voice, heard_at r n.tick) → Steps n (Some x) (After n r rest)
 
-pub came : {n : Notes} {r : Row} {rest : Rows} → Playable n → rows_yet n ≡ r ∷ zipped rest.places.now rest.alterations.now rest.lengths.now → Came n r rest
+pub came : {n : Notes} {r : Row} {rest : Rows} → Playable n → Stepped n.rows (Some r) rest → Came n r rest
 unfolding total all_fine
-came {n} {r} {rest} p comes =
+came {n} {r} {rest} p s =
+    let comes = s.0 in
     let left : List Event = voice_in rest in
     let first : events_yet n ≡ event_in r ∷ left = comes_first n.rows rest r comes in
     let all = and_parts (fine (event_in r)) (all_fine left) (sym (ap all_fine first) ∙ p.fines) in
@@ -57,7 +59,7 @@ came {n} {r} {rest} p comes =
     let l = lasts_words r.place r.alteration r.length in
     let note_first = λ (h : (r.place == places) ≡ false). ap (λ (es : List Event). heard es n.tick) first ∙ heard_note r left n.tick h in
     record {
-      playable = record { fines = all.1; short = omega (arith, t, l, p.short) };
+      playable = record { even = s.1 p.even; fines = all.1; short = omega (arith, t, l, p.short) };
       fewer = ap length comes;
       over_silence = λ h. sym (ap (λ (es : List Event). heard es n.tick) first ∙ heard_silent r left n.tick h);
       fields = λ h. note_fields _ _ _ (ap fine (sym (pick_false (r.place == places) _ _ h)) ∙ all.0);
@@ -82,7 +84,7 @@ pub from_words :
     {w : List ℕ} {v begin count : ℕ} (n : Notes) → Holds w → Spans w v begin count
     → n.rows.places.now ≡ take count (drop (places_from w + begin) w) → n.rows.alterations.now ≡ take count (drop (alterations_from w + begin) w)
     → n.rows.lengths.now ≡ take count (drop (lengths_from w + begin) w) → n.tick ≡ 0
-    → Playable n × IsEven n × (heard_yet n ≡ heard (voice (score_of w) v) 0)
+    → Playable n × (heard_yet n ≡ heard (voice (score_of w) v) 0)
 from_words {w} {v} {begin} {count} n h s x y u t =
     let z = h.size in
     let within = s.within in
@@ -91,10 +93,10 @@ from_words {w} {v} {begin} {count} n h s x y u t =
     let ly = ap length y ∙ many (alterations_from w) (omega arith) in
     let lu = ap length u ∙ many (lengths_from w) (omega arith) in (
       record {
+        even = (ly ∙ sym lx, lu ∙ sym lx);
         fines = ap all_fine e ∙ fines_voice (score_of w) v h.kept.fines;
         short = omega (arith, t, ap total e, short_voice (score_of w) v h.kept.short);
       },
-      (ly ∙ sym lx, lu ∙ sym lx),
       ap (λ (es : List Event). heard es n.tick) e ∙ ap (heard (voice (score_of w) v)) t,
     )
   where

@@ -1,12 +1,12 @@
 -- What is heard of one voice, note by note. Assumes nothing: these are definitions.
-use Rattle.std.specs.Prelude.{◌≡◌, ◌+◌, ◌<◌, true, List, [], ◌∷◌, map, length, None, Option, MatchOption}
+use Rattle.std.specs.Prelude.{◌≡◌, ◌+◌, ◌<◌, true, List, [], ◌∷◌, map, None, Option, MatchOption}
 use Rattle.std.specs.Iterator.{YieldsThen}
 use Rattle.score.specs.declared.Sound.{Sound}
 use Rattle.score.specs.Meaning.{sound_meant}
 use Rattle.score.specs.Music.{Event, Heard, heard, total, all_fine}
 use Rattle.score.specs.Calls.{ticks_end}
 use Rattle.rows.specs.declared.Row.{Row}
-use Rattle.rows.specs.Rows.{zipped, voice_in}
+use Rattle.rows.specs.Rows.{zipped, voice_in, IsEven}
 use Rattle.sounds.specs.declared.single.Notes.{Notes}
 
 -- the rows that are left, as one
@@ -20,14 +20,11 @@ events_yet n = voice_in n.rows
 abbrev pub heard_yet : Notes → List Heard
 heard_yet n = heard (events_yet n) n.tick
 
--- events that can be written, and not too long together
+-- rows of one length, and events that can be written and are not too long together
 pub record Playable (n : Notes) : Type 0 where
+  pub even : IsEven n.rows
   pub fines : all_fine (events_yet n) ≡ true
   pub short : n.tick + total (events_yet n) < ticks_end
-
--- rows of one length
-abbrev pub IsEven : Notes → Type 0
-IsEven n = (length n.rows.alterations.now ≡ length n.rows.places.now) × (length n.rows.lengths.now ≡ length n.rows.places.now)
 
 -- one step: no note comes where none is left; else the first of them, and the rest is left
 pub record Steps (n : Notes) (r : Option Sound) (m : Notes) : Type 0 where

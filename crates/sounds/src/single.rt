@@ -4,7 +4,7 @@ ghost use Rattle.std.specs.Iterator.{at_most};
 ghost use Rattle.score.specs.Music.{heard as heard_from};
 ghost use Rattle.score.specs.Calls.{voice as voice_in};
 ghost use Rattle.memory.specs.Store.{voices_in, score_of};
-ghost use Rattle.sounds.specs.Single.{rows_yet, Playable, heard_yet, IsEven, Steps, NotesHeard};
+ghost use Rattle.sounds.specs.Single.{rows_yet, Playable, heard_yet, Steps, NotesHeard};
 
 use super::sound_of;
 use rows::Rows;
@@ -43,7 +43,7 @@ impl Iterator for Notes<'_> {
 
 /// The notes of a voice, if the voice is there.
 pub fn heard(score: Stored<'_>, voice: u32) -> Option<Notes<'_>>
-    ensures { MatchOption result (voices_in score.entry.words.now ≤ voice) (λ n. Playable n × IsEven n × (n.voice ≡ voice) × (voice < voices_in score.entry.words.now) × (heard_yet n ≡ heard_from (voice_in (score_of score.entry.words.now) voice) 0)) }
+    ensures { MatchOption result (voices_in score.entry.words.now ≤ voice) (λ n. Playable n × (n.voice ≡ voice) × (voice < voices_in score.entry.words.now) × (heard_yet n ≡ heard_from (voice_in (score_of score.entry.words.now) voice) 0)) }
 {
     let span = score.find_voice(voice)?;
     let rows = score.rows(span);

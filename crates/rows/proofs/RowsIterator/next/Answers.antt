@@ -1,5 +1,5 @@
 -- The first of each row, or none where one of them is over.
-use Rattle.std.proofs.Common.{rules, refl}
+use Rattle.std.proofs.Common.{rules, refl, arith}
 use Rattle.rows.proofs.Zipped.{no_places, no_alterations, no_lengths}
 use Rattle.rows.specs.Rows.{zipped}
 use Rattle.rows.proofs.RowsIterator.next.Goals as goal
@@ -15,7 +15,7 @@ returns-in_err-length-clause-steps c = let e = no_lengths c.args.self.now.places
 
 pub returns-clause-steps : goal.returns-clause-steps
 unfolding zipped
-returns-clause-steps c = rw (c.in_ok-place.ensures.cases.0, c.in_ok-alteration.ensures.cases.0, c.in_ok-length.ensures.cases.0) refl
+returns-clause-steps c = rw (c.in_ok-place.ensures.cases.0, c.in_ok-alteration.ensures.cases.0, c.in_ok-length.ensures.cases.0) (refl, λ e. (omega (arith, e.0), omega (arith, e.1)))
 
 pub returns-clause-goes : goal.returns-clause-goes
 unfolding zipped

@@ -8,4 +8,4 @@ returns c =
     let s = c.in_ok-span.ensures in
     let r = c.rows-rows.ensures in
     let f = from_words _ c.args.score.holds s r.places r.alterations r.lengths refl in
-    (f.0, f.1, refl, s.there, f.2)
+    (f.0, refl, s.there, f.1)

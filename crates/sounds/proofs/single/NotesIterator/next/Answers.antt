@@ -39,4 +39,4 @@ returns-then-not-is_silent c =
     }
 
 pub returns-clause-steps : goal.returns-clause-steps
-returns-clause-steps c = record { same_voice = c.loop-row.invariant.same_voice; gives = sym c.loop-row.invariant.same_heard ∙ none_left c.loop-row.self c.in_default.ensures.steps.0 }
+returns-clause-steps c = record { same_voice = c.loop-row.invariant.same_voice; gives = sym c.loop-row.invariant.same_heard ∙ none_left c.loop-row.self c.in_default.ensures.steps.0.0 }
