@@ -7,5 +7,6 @@ pub mod Walks
 pub mod Turned
 pub mod Writing
 pub mod Marked
+pub mod Search
 pub mod Whole
 pub mod Line

@@ -1,6 +1,6 @@
 -- The slots and cursors of the voices that have been marked, one voice after the other. Assumes nothing.
 use Rattle.std.proofs.Common.{◌≡◌, ℕ, zero, suc, ◌+◌, ◌-◌, ◌*◌, ◌%◌, ◌<◌, ◌≤◌, true, List, [], ◌∷◌, ◌++◌, map, length, get_or, take, drop, set, replicate, sum, sym, ap, ◌∙◌, subst, inl, inr, zero-add, arith}
-use Rattle.std.proofs.lemmas.List.{get_or-replicate, length-replicate, get_or_past, get_or-set_same, get_or-set_other, length-take, length-drop, take-map}
+use Rattle.std.proofs.lemmas.List.{get_or-replicate, length-replicate, get_or_past, get_or-set_same, get_or-set_other, length-drop, take-map}
 use Rattle.std.proofs.lemmas.Bool.{cases_eq, cases_lt}
 use Rattle.score.specs.Music.{Event, lasts, heard, total, all_fine}
 use Rattle.score.specs.Calls.{Score, ticks_end, voice, begins, together}
@@ -8,13 +8,13 @@ use Rattle.laws.specs.Rows.{voice_of}
 use Rattle.laws.proofs.Events.{total_three}
 use Rattle.memory.proofs.Scores.{fines_voice, fine_parts, short_voice}
 use Rattle.std.specs.Int.{bit_at}
-use Rattle.sounds.specs.Spans.{from_event, until, starts, mixed, passed, note_ticks, ticks_from, grain, begun, marks, score_in, Laid, left, Ready, all_left}
+use Rattle.sounds.specs.Spans.{from_event, until, starts, mixed, passed, note_ticks, ticks_from, grain, begun, marks, score_in, Laid, part, left, Ready, all_left}
 use Rattle.std.proofs.lemmas.Nat.Bits.{bit_at-zero, bit_at-lt}
 use Rattle.sounds.proofs.Slots.{Free, Rising, begun_none, marks_other, marks_same}
 use Rattle.sounds.proofs.Walks.{ticks_no_lengths}
 use Rattle.sounds.proofs.Turns.{begun_later, begun_here}
 use Rattle.sounds.proofs.Mixed.{mixed_same, together_mixed}
-use Rattle.sounds.proofs.Parts.{voice_drop, voice_take, lasts_voice, total_sum, voice_dealt, begins_passed, starts_until, rising_starts, rising_later, length_dealt, absent, none_left}
+use Rattle.sounds.proofs.Parts.{voice_drop, voice_take, lasts_voice, total_sum, voice_dealt, same_long, part_long, begins_passed, starts_until, rising_starts, rising_later, length_dealt, absent, none_left}
 
 no_bit : (u t m : ℕ) (ms : List ℕ) → begun u t (m ∷ ms) ≡ [] → bit_at m u ≡ 0
 no_bit u t m ms h = elim (cases_eq (bit_at m u) 1) [
@@ -40,129 +40,124 @@ pub record Marked (ns ps xs ds : List ℕ) (first e : ℕ) (cursors ms : List �
   pub reached : (u : ℕ) → u < k → sum (take u ns) ≤ get_or cursors u 0
   pub free : (u : ℕ) → k ≤ u → begun u (grain * first) ms ≡ []
 
--- One voice more: the words of its events stand in the rows from `begin` up to before `end`; it passes over r of them, which have so many ticks.
-module _ (ns ps xs ds : List ℕ) (first E : ℕ) (laid : Laid ns ps xs ds) (cursors ms : List ℕ) (k begin end : ℕ) (there : k < length ns) (begins_at : begin ≡ sum (take k ns)) (ends_at : end ≡ begin + get_or ns k 0) where
+-- the words of the events of voice k
+module _ (ns ps xs ds : List ℕ) (laid : Laid ns ps xs ds) (k : ℕ) where
   abbrev Es : List Event
   Es = voice (score_in ns ps xs ds) k
 
-  abbrev part : List ℕ → List ℕ
-  part ws = take (end - begin) (drop begin ws)
+  abbrev own : List ℕ → List ℕ
+  own = part ns k
 
-  in_rows : Es ≡ voice_of (part ps) (part xs) (part ds)
+  in_rows : Es ≡ voice_of (own ps) (own xs) (own ds)
   in_rows =
-      let n : get_or ns k 0 ≡ end - begin = omega arith in
-      voice_dealt ns (voice_of ps xs ds) k
-      ∙ ap (λ (i : ℕ). take i (drop (sum (take k ns)) (voice_of ps xs ds))) n ∙ ap (λ (i : ℕ). take (end - begin) (drop i (voice_of ps xs ds))) (sym begins_at)
-      ∙ ap (take (end - begin)) (voice_drop begin ps xs ds) ∙ voice_take (end - begin) (drop begin ps) (drop begin xs) (drop begin ds)
+      voice_dealt ns (voice_of ps xs ds) k ∙ ap (take (get_or ns k 0)) (voice_drop (sum (take k ns)) ps xs ds)
+      ∙ voice_take (get_or ns k 0) (drop (sum (take k ns)) ps) (drop (sum (take k ns)) xs) (drop (sum (take k ns)) ds)
 
-  same_long : (ws : List ℕ) → length ws ≡ length ps → length (part ws) ≡ length (part ps)
-  same_long ws q = simp (length-take, length-drop, q)
+  lengths_are : map lasts Es ≡ own ds
+  lengths_are = ap (map lasts) in_rows ∙ lasts_voice (own ps) (own xs) (own ds) (same_long ns k ps xs laid.alterations_too) (same_long ns k ps ds laid.lengths_too)
 
-  lengths_are : map lasts Es ≡ part ds
-  lengths_are = ap (map lasts) in_rows ∙ lasts_voice (part ps) (part xs) (part ds) (same_long xs laid.alterations_too) (same_long ds laid.lengths_too)
-
-  pub part_short : sum (part ds) < ticks_end
+  pub part_short : sum (own ds) < ticks_end
   part_short = subst (λ (n : ℕ). n < ticks_end) (total_sum Es ∙ ap sum lengths_are) (short_voice (score_in ns ps xs ds) k laid.short)
 
-  pub part_long : length (part ps) ≡ length (part ds)
-  part_long = sym (same_long ds laid.lengths_too)
+  -- One voice more, of which r events are passed over; those have so many ticks.
+  module _ (first E : ℕ) (cursors ms : List ℕ) (begin : ℕ) (there : k < length ns) (begins_at : begin ≡ sum (take k ns)) where
+    module _ (r : ℕ) (passes : r ≡ passed (grain * first) 0 (own ds)) where
+      abbrev tick : ℕ
+      tick = sum (take r (own ds))
 
-  module _ (r : ℕ) (passes : r ≡ passed (grain * first) 0 (part ds)) where
-    abbrev tick : ℕ
-    tick = sum (take r (part ds))
+      ticks_are : total (take r Es) ≡ tick
+      ticks_are = total_sum (take r Es) ∙ ap sum (sym (take-map lasts r Es)) ∙ ap (λ (ws : List ℕ). sum (take r ws)) lengths_are
 
-    ticks_are : total (take r Es) ≡ tick
-    ticks_are = total_sum (take r Es) ∙ ap sum (sym (take-map lasts r Es)) ∙ ap (λ (ws : List ℕ). sum (take r ws)) lengths_are
+      row : begins k (grain * first) E (heard Es 0) ≡ until k E (heard (drop r Es) tick)
+      row =
+          begins_passed k (grain * first) E 0 Es
+          ∙ ap (λ (i : ℕ). until k E (heard (drop i Es) (0 + total (take i Es)))) (ap (passed (grain * first) 0) lengths_are ∙ sym passes)
+          ∙ ap (λ (i : ℕ). until k E (heard (drop r Es) i)) (zero-add (total (take r Es)) ∙ ticks_are)
 
-    row : begins k (grain * first) E (heard Es 0) ≡ until k E (heard (drop r Es) tick)
-    row =
-        begins_passed k (grain * first) E 0 Es
-        ∙ ap (λ (i : ℕ). until k E (heard (drop i Es) (0 + total (take i Es)))) (ap (passed (grain * first) 0) lengths_are ∙ sym passes)
-        ∙ ap (λ (i : ℕ). until k E (heard (drop r Es) i)) (zero-add (total (take r Es)) ∙ ticks_are)
+      abbrev Ticks : List ℕ
+      Ticks = note_ticks E tick (drop r (own ps)) (drop r (own ds))
 
-    abbrev Ticks : List ℕ
-    Ticks = note_ticks E tick (drop r (part ps)) (drop r (part ds))
+      row_starts : starts (until k E (heard (drop r Es) tick)) ≡ Ticks
+      row_starts =
+          ap (λ (es : List Event). starts (until k E (heard (drop r es) tick))) in_rows
+          ∙ ap (λ (es : List Event). starts (until k E (heard es tick))) (voice_drop r (own ps) (own xs) (own ds))
+          ∙ starts_until k E tick (drop r (own ps)) (drop r (own xs)) (drop r (own ds)) (simp (length-drop, same_long ns k ps xs laid.alterations_too))
 
-    row_starts : starts (until k E (heard (drop r Es) tick)) ≡ Ticks
-    row_starts =
-        ap (λ (es : List Event). starts (until k E (heard (drop r es) tick))) in_rows
-        ∙ ap (λ (es : List Event). starts (until k E (heard es tick))) (voice_drop r (part ps) (part xs) (part ds))
-        ∙ starts_until k E tick (drop r (part ps)) (drop r (part xs)) (drop r (part ds)) (simp (length-drop, same_long xs laid.alterations_too))
+      -- the ticks rise, from the first slot on
+      module _ (reaches : r < length (own ds) → grain * first ≤ tick) where
+        all_fine_voice : all_fine Es ≡ true
+        all_fine_voice = fines_voice (score_in ns ps xs ds) k laid.fines
 
-    -- the ticks rise, from the first slot on
-    module _ (reaches : r < length (part ds) → grain * first ≤ tick) where
-      all_fine_voice : all_fine Es ≡ true
-      all_fine_voice = fines_voice (score_in ns ps xs ds) k laid.fines
+        ticks_rise : Rising (grain * first) E Ticks
+        ticks_rise =
+            let m : tick % grain ≡ 0 = ap (λ (n : ℕ). n % grain) (sym ticks_are) ∙ total_three (take r Es) (fine_parts r Es all_fine_voice).0 in
+            let up : Rising tick E Ticks = subst (Rising tick E) row_starts (rising_starts k E tick (drop r Es) (fine_parts r Es all_fine_voice).1 m) in
+            elim (cases_lt r (length (own ds))) [
+              | inl l ↦ rising_later (grain * first) tick E Ticks (reaches l) up
+              | inr l ↦ subst (Rising (grain * first) E) (sym (no_ticks l)) (rising_none (grain * first) E)
+            ]
+          where
+            no_ticks : length (own ds) ≤ r → Ticks ≡ []
+            no_ticks l = ticks_no_lengths E tick (drop r (own ps)) (drop r (own ds)) (simp length-drop (omega arith))
 
-      ticks_rise : Rising (grain * first) E Ticks
-      ticks_rise =
-          let m : tick % grain ≡ 0 = ap (λ (n : ℕ). n % grain) (sym ticks_are) ∙ total_three (take r Es) (fine_parts r Es all_fine_voice).0 in
-          let up : Rising tick E Ticks = subst (Rising tick E) row_starts (rising_starts k E tick (drop r Es) (fine_parts r Es all_fine_voice).1 m) in
-          elim (cases_lt r (length (part ds))) [
-            | inl l ↦ rising_later (grain * first) tick E Ticks (reaches l) up
-            | inr l ↦ subst (Rising (grain * first) E) (sym (no_ticks l)) (rising_none (grain * first) E)
-          ]
-        where
-          no_ticks : length (part ds) ≤ r → Ticks ≡ []
-          no_ticks l = ticks_no_lengths E tick (drop r (part ps)) (drop r (part ds)) (simp length-drop (omega arith))
+        module _ (ends : E ≡ grain * (first + length ms)) (room : length ns ≤ length cursors) (before : Marked ns ps xs ds first E cursors ms k) where
+          abbrev Then : List ℕ
+          Then = marks k first Ticks ms
 
-      module _ (ends : E ≡ grain * (first + length ms)) (room : length ns ≤ length cursors) (before : Marked ns ps xs ds first E cursors ms k) where
-        abbrev Then : List ℕ
-        Then = marks k first Ticks ms
+          abbrev Cursors : List ℕ
+          Cursors = set cursors k (begin + r)
 
-        abbrev Cursors : List ℕ
-        Cursors = set cursors k (begin + r)
+          own_cursor : get_or Cursors k 0 ≡ begin + r
+          own_cursor = get_or-set_same cursors k (begin + r) 0 (omega arith)
 
-        own_cursor : get_or Cursors k 0 ≡ begin + r
-        own_cursor = get_or-set_same cursors k (begin + r) 0 (omega arith)
+          own_left : left ns ps xs ds E Cursors k ≡ until k E (heard (drop r Es) tick)
+          own_left =
+              let i : get_or Cursors k 0 - sum (take k ns) ≡ r = omega (arith, own_cursor) in
+              ap (λ (n : ℕ). until k E (from_event Es n)) i ∙ ap (λ (n : ℕ). until k E (heard (drop r Es) n)) ticks_are
 
-        own_left : left ns ps xs ds E Cursors k ≡ until k E (heard (drop r Es) tick)
-        own_left =
-            let i : get_or Cursors k 0 - sum (take k ns) ≡ r = omega (arith, own_cursor) in
-            ap (λ (n : ℕ). until k E (from_event Es n)) i ∙ ap (λ (n : ℕ). until k E (heard (drop r Es) n)) ticks_are
+          other_left : (u : ℕ) → (u ≡ k → ⊥) → left ns ps xs ds E Cursors u ≡ left ns ps xs ds E cursors u
+          other_left u ne = ap (λ (n : ℕ). until u E (from_event (voice (score_in ns ps xs ds) u) (n - sum (take u ns)))) (get_or-set_other cursors k u (begin + r) 0 ne)
 
-        other_left : (u : ℕ) → (u ≡ k → ⊥) → left ns ps xs ds E Cursors u ≡ left ns ps xs ds E cursors u
-        other_left u ne = ap (λ (n : ℕ). until u E (from_event (voice (score_in ns ps xs ds) u) (n - sum (take u ns)))) (get_or-set_other cursors k u (begin + r) 0 ne)
+          own_slots : begun k (grain * first) Then ≡ Ticks
+          own_slots =
+              let none = before.free k (omega arith) in
+              let zeroth : grain * first ≡ grain * (first + 0) = omega arith in
+              marks_same k first 0 Ticks ms (begun_free k (grain * first) ms none) (subst (λ (n : ℕ). Rising n (grain * (first + length ms)) Ticks) zeroth (subst (λ (n : ℕ). Rising (grain * first) n Ticks) ends ticks_rise))
+              ∙ ap (λ (ts : List ℕ). ts ++ Ticks) none
 
-        own_slots : begun k (grain * first) Then ≡ Ticks
-        own_slots =
-            let none = before.free k (omega arith) in
-            let zeroth : grain * first ≡ grain * (first + 0) = omega arith in
-            marks_same k first 0 Ticks ms (begun_free k (grain * first) ms none) (subst (λ (n : ℕ). Rising n (grain * (first + length ms)) Ticks) zeroth (subst (λ (n : ℕ). Rising (grain * first) n Ticks) ends ticks_rise))
-            ∙ ap (λ (ts : List ℕ). ts ++ Ticks) none
+          -- what holds of voice k, and of those before it, holds of all
+          each_voice : (P : ℕ → Type 0) → P k → ((u : ℕ) → u < k → P u) → (u : ℕ) → u < k + 1 → P u
+          each_voice P here others u l = elim (cases_eq u k) [ inl q ↦ subst P (sym q) here | inr ne ↦ others u (omega arith) ]
 
-        -- what holds of voice k, and of those before it, holds of all
-        each_voice : (P : ℕ → Type 0) → P k → ((u : ℕ) → u < k → P u) → (u : ℕ) → u < k + 1 → P u
-        each_voice P here others u l = elim (cases_eq u k) [ inl q ↦ subst P (sym q) here | inr ne ↦ others u (omega arith) ]
-
-        marked_more : Marked ns ps xs ds first E Cursors Then (k + 1)
-        marked_more = record {
-          whole =
-              each_voice (λ u. left ns ps xs ds E Cursors u ≡ begins u (grain * first) E (heard (voice (score_in ns ps xs ds) u) 0))
-              (own_left ∙ sym row)
-              (λ u l. other_left u (λ q. omega arith) ∙ before.whole u l);
-          told =
-              each_voice (λ u. starts (left ns ps xs ds E Cursors u) ≡ begun u (grain * first) Then)
-              (ap starts own_left ∙ row_starts ∙ sym own_slots)
-              (λ u l. ap starts (other_left u (λ q. omega arith)) ∙ before.told u l ∙ sym (marks_other k first u (grain * first) Ticks ms (λ q. omega arith)));
-          reached =
-              each_voice (λ u. sum (take u ns) ≤ get_or Cursors u 0)
-              (omega (arith, own_cursor))
-              (λ u l. subst (λ (n : ℕ). sum (take u ns) ≤ n) (sym (get_or-set_other cursors k u (begin + r) 0 (λ q. omega arith))) (before.reached u l));
-          free = λ u l. marks_other k first u (grain * first) Ticks ms (λ q. omega arith) ∙ before.free u (omega arith);
-        }
+          marked_more : Marked ns ps xs ds first E Cursors Then (k + 1)
+          marked_more = record {
+            whole =
+                each_voice (λ u. left ns ps xs ds E Cursors u ≡ begins u (grain * first) E (heard (voice (score_in ns ps xs ds) u) 0))
+                (own_left ∙ sym row)
+                (λ u l. other_left u (λ q. omega arith) ∙ before.whole u l);
+            told =
+                each_voice (λ u. starts (left ns ps xs ds E Cursors u) ≡ begun u (grain * first) Then)
+                (ap starts own_left ∙ row_starts ∙ sym own_slots)
+                (λ u l. ap starts (other_left u (λ q. omega arith)) ∙ before.told u l ∙ sym (marks_other k first u (grain * first) Ticks ms (λ q. omega arith)));
+            reached =
+                each_voice (λ u. sum (take u ns) ≤ get_or Cursors u 0)
+                (omega (arith, own_cursor))
+                (λ u l. subst (λ (n : ℕ). sum (take u ns) ≤ n) (sym (get_or-set_other cursors k u (begin + r) 0 (λ q. omega arith))) (before.reached u l));
+            free = λ u l. marks_other k first u (grain * first) Ticks ms (λ q. omega arith) ∙ before.free u (omega arith);
+          }
 
 -- the same of the slots as the code has them, of which there are n
 pub marked_step :
-    {ns ps xs ds : List ℕ} {first n : ℕ} {cursors ms : List ℕ} {k begin : ℕ} (end r : ℕ) (slots : List ℕ) → Laid ns ps xs ds → k < length ns → begin ≡ sum (take k ns) → end ≡ begin + get_or ns k 0
+    {ns ps xs ds : List ℕ} {first n : ℕ} {cursors ms : List ℕ} {k begin : ℕ} (r : ℕ) (slots : List ℕ) → Laid ns ps xs ds → k < length ns → begin ≡ sum (take k ns)
     → length ns ≤ length cursors → length ms ≡ n → Marked ns ps xs ds first (grain * (first + n)) cursors ms k
-    → r ≡ passed (grain * first) 0 (take (end - begin) (drop begin ds))
-    → (r < length (take (end - begin) (drop begin ds)) → grain * first ≤ sum (take r (take (end - begin) (drop begin ds))))
-    → slots ≡ marks k first (ticks_from (grain * (first + length ms)) (take (end - begin) (drop begin ps)) (take (end - begin) (drop begin ds)) r) ms
+    → r ≡ passed (grain * first) 0 (part ns k ds)
+    → (r < get_or ns k 0 → grain * first ≤ sum (take r (part ns k ds)))
+    → slots ≡ marks k first (ticks_from (grain * (first + length ms)) (part ns k ps) (part ns k ds) r) ms
     → Marked ns ps xs ds first (grain * (first + n)) (set cursors k (begin + r)) slots (k + 1)
-marked_step {ns} {ps} {xs} {ds} {first} {n} {cursors} {ms} {k} {begin} end r slots laid there begins_at ends_at room long before passes reaches done =
+marked_step {ns} {ps} {xs} {ds} {first} {n} {cursors} {ms} {k} {begin} r slots laid there begins_at room long before passes reaches done =
     let ends : grain * (first + n) ≡ grain * (first + length ms) = ap (λ (i : ℕ). grain * (first + i)) (sym long) in
-    rw (done, ← ends) (marked_more ns ps xs ds first (grain * (first + n)) laid cursors ms k begin end there begins_at ends_at r passes reaches ends room before)
+    let many = part_long ns k ds there (omega (arith, laid.fitting, laid.lengths_too)) in
+    rw (done, ← ends) (marked_more ns ps xs ds laid k first (grain * (first + n)) cursors ms begin there begins_at r passes (λ l. reaches (omega (arith, many))) ends room before)
 
 -- ---- before the first voice, and after the last
 

@@ -1,7 +1,7 @@
 -- Voices in three rows of words: what is heard of them in a span, and which note comes next. Assumes nothing.
-use Rattle.std.proofs.Common.{◌≡◌, ℕ, zero, suc, ◌+◌, ◌-◌, ◌*◌, ◌/◌, ◌%◌, ◌<◌, ◌≤◌, min, Bool, true, false, cond, one-add, ◌&&◌, eqb, ltb, leb, List, [], ◌∷◌, map, length, get_or, take, drop, sum, sym, refl, ap, ◌∙◌, inl, inr, suc-add, arith}
-use Rattle.std.proofs.lemmas.List.{drop-drop, drop_all, get_or_past}
-use Rattle.std.proofs.lemmas.List.Sums.{sum_by-cons}
+use Rattle.std.proofs.Common.{◌≡◌, ℕ, zero, suc, ◌+◌, ◌-◌, ◌*◌, ◌/◌, ◌%◌, ◌<◌, ◌≤◌, min, Bool, true, false, cond, one-add, ◌&&◌, eqb, ltb, leb, List, [], ◌∷◌, map, length, get_or, take, drop, sum, sym, refl, ap, ap₂, ◌∙◌, inl, inr, suc-add, arith}
+use Rattle.std.proofs.lemmas.List.{length-take, length-take-le, length-drop, drop-drop, drop_all, get_or_past}
+use Rattle.std.proofs.lemmas.List.Sums.{sum_by-cons, sum_by_more, sum_by-take-le}
 use Rattle.std.proofs.lemmas.Grind.{common_steps}
 use Rattle.std.proofs.lemmas.Bool.{and_parts, and_from, and_left, and_right, cases_lt, le-leb, lt-leb, lt-ltb, le-ltb, ltb-true}
 use Rattle.score.specs.Music.{pick, places, alterations, length_end, Event, note, silence, lasts, tone, Heard, heard, total, fine, all_fine}
@@ -12,7 +12,7 @@ use Rattle.laws.proofs.Events.{fine_lasts}
 use Rattle.laws.proofs.Rows.{lasts_words}
 use Rattle.memory.proofs.Scores.{fine_fields, fine_place}
 use Rattle.memory.specs.Store.{dealt}
-use Rattle.sounds.specs.Spans.{Row, from_event, until, starts, grain, passed, note_ticks, silences, sound_at, score_in, left}
+use Rattle.sounds.specs.Spans.{Row, from_event, until, starts, grain, passed, note_ticks, silences, sound_at, score_in, part, left}
 use Rattle.sounds.proofs.Slots.{Rising}
 
 -- ---- parts of rows
@@ -100,6 +100,29 @@ drop_take_sub zero c xs = grind (arith, common_steps)
 drop_take_sub (suc i) zero xs = grind (arith, common_steps)
 drop_take_sub (suc i) (suc c) [] = grind (arith, common_steps)
 drop_take_sub (suc i) (suc c) (x ∷ xs) = grind (arith, common_steps, drop_take_sub i c xs)
+
+-- the words of voice u's events, as the code takes them: all, and those from the r-th on
+module _ (ns : List ℕ) (u : ℕ) {begin count : ℕ} (begins_at : begin ≡ sum (take u ns)) (counts_are : count ≡ get_or ns u 0) where
+  pub part_is : (ws : List ℕ) → take (begin + count - begin) (drop begin ws) ≡ part ns u ws
+  part_is ws =
+      let n : begin + count - begin ≡ get_or ns u 0 = omega arith in
+      ap₂ (λ (k i : ℕ). take k (drop i ws)) n begins_at
+
+  pub rest_is : (r : ℕ) (ws : List ℕ) → take (begin + count - (begin + r)) (drop (begin + r) ws) ≡ drop r (part ns u ws)
+  rest_is r ws =
+      let n : begin + count - (begin + r) ≡ get_or ns u 0 - r = omega arith in
+      ap₂ (λ (k i : ℕ). take k (drop (i + r) ws)) n begins_at
+      ∙ ap (take (get_or ns u 0 - r)) (sym (drop-drop r (sum (take u ns)) ws)) ∙ sym (drop_take_sub r (get_or ns u 0) (drop (sum (take u ns)) ws))
+
+pub same_long : (ns : List ℕ) (u : ℕ) (ps ws : List ℕ) → length ws ≡ length ps → length (part ns u ws) ≡ length (part ns u ps)
+same_long ns u ps ws e = simp (length-take, length-drop, e)
+
+-- which are as many as the voice has events
+pub part_long : (ns : List ℕ) (u : ℕ) (ws : List ℕ) → u < length ns → sum ns ≤ length ws → length (part ns u ws) ≡ get_or ns u 0
+part_long ns u ws there fitting =
+    let more = sum_by_more (λ x. x) ns u 0 there in
+    let most = sum_by-take-le (λ x. x) ns (u + 1) in
+    length-take-le (get_or ns u 0) (drop (sum (take u ns)) ws) (simp length-drop (omega (arith, more, most)))
 
 -- ---- what begins in a span
 

@@ -1,7 +1,8 @@
 -- What is heard of all voices in a span: rows of notes, and slots that say which voices begin a note there. Assumes nothing: these are definitions.
-use Rattle.std.specs.Prelude.{◌≡◌, ℕ, zero, suc, ◌+◌, ◌-◌, ◌/◌, ◌^◌, ◌<◌, ◌≤◌, true, List, [], ◌∷◌, map, length, take, drop, sum, ◌==◌, bit_or, nat_lt, slice_index, slice_set}
+use Rattle.std.specs.Prelude.{◌≡◌, ℕ, zero, suc, ◌+◌, ◌-◌, ◌*◌, ◌/◌, ◌^◌, ◌<◌, ◌≤◌, true, List, [], ◌∷◌, map, length, take, drop, sum, ◌==◌, bit_or, nat_lt, slice_index, slice_set}
 use Rattle.std.specs.Int.{bit_at}
 use Rattle.std.specs.List.{prefix_len}
+use Rattle.std.specs.List.Sorted.{IsNonDecreasing}
 use Rattle.score.specs.Music.{pick, places, Event, tone, Heard, heard, total}
 use Rattle.score.specs.Calls.{Score, voice, none_too_long, merged}
 use Rattle.laws.specs.Rows.{voice_of}
@@ -52,6 +53,36 @@ note_ticks e t (p ∷ ps) (d ∷ ds) = pick (nat_lt t e) (pick (p == places) (no
 abbrev pub ticks_from : ℕ → List ℕ → List ℕ → ℕ → List ℕ
 ticks_from e ps ds r = note_ticks e (sum (take r ds)) (drop r ps) (drop r ds)
 
+-- when an event begins, if the bar in which it does and the tick of that bar lie in two rows of words, and a bar has m ticks
+abbrev pub start_at : ℕ → List ℕ → List ℕ → ℕ → ℕ
+start_at m bs ts i = slice_index bs i * m + slice_index ts i
+
+-- none begins in a bar before that of one that stands in front of it, each in its bar, and none too late
+pub record InOrder (m : ℕ) (bs ts : List ℕ) : Type 0 where
+  pub positive : 0 < m
+  pub ticks_too : length ts ≡ length bs
+  pub rise : IsNonDecreasing bs
+  pub in_bar : (i : ℕ) → i < length bs → slice_index ts i < m
+  pub small : (i : ℕ) → i < length bs → start_at m bs ts i < 2 ^ 32
+
+-- so do events begin that follow one another and are so long
+pub record Timed (m : ℕ) (bs ts ds : List ℕ) : Type 0 where
+  pub bars_too : length bs ≡ length ds
+  pub ticks_too : length ts ≡ length ds
+  pub rise : IsNonDecreasing bs
+  pub begins : (i : ℕ) → i < length ds → (start_at m bs ts i ≡ sum (take i ds)) × (slice_index ts i < m)
+
+-- the first r of them begin before tick a
+abbrev pub AllBefore : ℕ → ℕ → List ℕ → List ℕ → ℕ → Type 0
+AllBefore a m bs ts r = (i : ℕ) → i < r → start_at m bs ts i < a
+
+-- and the next does not, but at tick t
+pub record Reached (a m : ℕ) (bs ts : List ℕ) (r t : ℕ) : Type 0 where
+  pub before : AllBefore a m bs ts r
+  pub there : r < length bs
+  pub begins : t ≡ start_at m bs ts r
+  pub late : a ≤ t
+
 -- how many silences come first
 abbrev pub silences : List ℕ → ℕ
 silences ps = prefix_len (λ p. p == places) ps
@@ -86,6 +117,17 @@ pub record Laid (ns ps xs ds : List ℕ) : Type 0 where
   pub fitting : sum ns ≤ length ps
   pub short : none_too_long (score_in ns ps xs ds) ≡ true
   pub fines : all_fines (score_in ns ps xs ds) ≡ true
+
+-- of a row, the words of voice u's events
+abbrev pub part : List ℕ → ℕ → List ℕ → List ℕ
+part ns u ws = take (slice_index ns u) (drop (sum (take u ns)) ws)
+
+-- two rows more, which say where each voice's events begin
+pub record AllTimed (ns ds : List ℕ) (m : ℕ) (bs ts : List ℕ) : Type 0 where
+  pub positive : 0 < m
+  pub bars_too : length bs ≡ length ds
+  pub ticks_too : length ts ≡ length ds
+  pub each : (u : ℕ) → u < length ns → Timed m (part ns u bs) (part ns u ts) (part ns u ds)
 
 -- what is left of voice u up to before tick e, where the cursors say which of all events comes next in each voice
 abbrev pub left : List ℕ → List ℕ → List ℕ → List ℕ → ℕ → List ℕ → ℕ → Row

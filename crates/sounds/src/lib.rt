@@ -3,13 +3,13 @@
 //! The contract of `heard_in` cites `together`, the definition of which crate `laws` proves that it is in order and that nothing of any voice is lost.
 #![tactic(auto)]
 
-ghost use Rattle.std.specs.Prelude.{◌≡◌, ◌+◌, ◌*◌, ◌^◌, ◌<◌, ◌≤◌, ◌++◌, length, take, drop, replicate, sum, slice_index};
+ghost use Rattle.std.specs.Prelude.{◌≡◌, ◌+◌, ◌*◌, ◌^◌, ◌<◌, ◌≤◌, ◌++◌, length, drop, sum, MatchOption};
 ghost use Rattle.score.specs.Music.{places, alterations, length_end};
 ghost use Rattle.score.specs.Meaning.{sound_meant};
 ghost use Rattle.score.specs.Calls.{widest_span, together};
 ghost use Rattle.wire.specs.Bytes.{sound_bytes, sounds_bytes};
 ghost use Rattle.memory.specs.Store.{limit_in, score_of};
-ghost use Rattle.sounds.specs.Spans.{passed, note_ticks, ticks_from, silences, grain, marks};
+ghost use Rattle.sounds.specs.Spans.{note_ticks, InOrder, AllBefore, Reached, silences, grain, marks};
 ghost use Rattle.sounds.specs.Rows.{heard_at};
 
 mod single;
@@ -40,23 +40,22 @@ fn sound_of(row: Row, voice: u8, start: u32) -> Sound
     }
 }
 
-/// The first event of a voice that begins at a tick or later, and when it begins.
-#[tactic(auto, using(crate::proofs::Walks::passed_none, crate::proofs::Walks::passed_all, crate::proofs::Walks::passed_more, crate::proofs::Walks::ticks_more))]
-fn reach(lengths: &[u32], from: usize) -> (usize, usize)
-    requires { sum lengths.now < 2 ^ 32 }
-    ensures index { result.0 ≡ passed from 0 lengths.now }
-    ensures tick { result.1 ≡ sum (take result.0 lengths.now) }
-    ensures reached { result.0 < length lengths.now → from ≤ result.1 }
-    ensures inside { result.0 ≤ length lengths.now }
+/// The first event of a voice that begins at a tick or later, and when it begins, if there is one. Of each event there is the bar in which it begins, and
+/// the tick of that bar.
+fn reach(bars: &[u32], ticks: &[u32], measure: usize, from: usize) -> Option<(usize, usize)>
+    requires { InOrder measure bars.now ticks.now }
+    ensures { MatchOption result (AllBefore from measure bars.now ticks.now (length bars.now)) (λ r. Reached from measure bars.now ticks.now r.0 r.1) }
 {
-    let mut tick = 0;
-    for (index, length) in lengths.iter().enumerate() {
-        if tick >= from {
-            return (index, tick);
+    let bar = from / measure;
+    // the bars before the tick's are passed by halves; in its own bar are few events
+    let passed = bars.partition_point(|at| (*at as usize) < bar);
+    for index in passed..bars.len() {
+        let start = bars[index] as usize * measure + ticks[index] as usize;
+        if start >= from {
+            return Some((index, start));
         }
-        tick += *length as usize;
     }
-    (lengths.len(), tick)
+    None
 }
 
 /// Sets a voice's bit in the slots in which its notes begin, from a tick on up to the end of the slots.
@@ -65,7 +64,7 @@ fn mark(places: &[u32], lengths: &[u32], voice: u32, start: usize, first: usize,
     requires rows { length places.now ≡ length lengths.now }
     requires voice { voice < 64 }
     requires short { start + sum lengths.now < 2 ^ 32 }
-    requires begun { 0 < length lengths.now → grain * first ≤ start }
+    requires begun { grain * first ≤ start }
     ensures { slots.new ≡ marks voice first (note_ticks (grain * (first + length slots.old)) start places.now lengths.now) slots.old }
 {
     let mut tick = start;
@@ -86,29 +85,6 @@ fn silences_first(places: &[u32]) -> usize
     ensures { result ≡ silences places.now }
 {
     places.iter().take_while(|place| **place == SILENT).count()
-}
-
-/// Sets a voice's bit in the slots in which it begins notes. Returns how many of its events begin before the first slot.
-fn mark_voice(places: &[u32], lengths: &[u32], voice: u32, first: usize, slots: &mut [u64]) -> usize
-    requires rows { length places.now ≡ length lengths.now }
-    requires voice { voice < 64 }
-    requires short { sum lengths.now < 2 ^ 31 }
-    requires begin { grain * first < 2 ^ 32 }
-    ensures index { result ≡ passed (grain * first) 0 lengths.now }
-    ensures marked { slots.new ≡ marks voice first (ticks_from (grain * (first + length slots.old)) places.now lengths.now result) slots.old }
-    ensures inside { result ≤ length lengths.now }
-    ensures reached { result < length lengths.now → grain * first ≤ sum (take result lengths.now) }
-{
-    let (passed, tick) = reach(lengths, GRAIN * first);
-    mark(
-        &places[passed..],
-        &lengths[passed..],
-        voice,
-        tick,
-        first,
-        slots,
-    );
-    passed
 }
 
 /// Writes the notes of all voices that begin from a tick up to before another, by time, and by voice where times are the same, over the front of lent

@@ -1,14 +1,14 @@
 //! All voices of a score together.
-ghost use Rattle.std.specs.Prelude.{◌≡◌, ◌+◌, ◌*◌, ◌^◌, ◌<◌, ◌≤◌, ◌++◌, length, drop, replicate};
+ghost use Rattle.std.specs.Prelude.{◌≡◌, ◌+◌, ◌*◌, ◌^◌, ◌<◌, ◌≤◌, ◌++◌, length, take, drop, replicate, sum, slice_index};
 ghost use Rattle.score.specs.Calls.{all_events, widest_span, together};
 ghost use Rattle.wire.specs.Bytes.{sounds_bytes};
 ghost use Rattle.memory.specs.Store.{score_of};
-ghost use Rattle.sounds.specs.Spans.{grain, silences, Laid, Ready};
+ghost use Rattle.sounds.specs.Spans.{grain, silences, Laid, AllTimed, Ready};
 
-use super::{GRAIN, mark_voice, silences_first, sound_of};
-use rows::{Row, Rows};
+use super::{GRAIN, mark, reach, silences_first, sound_of};
+use rows::{Onsets, Row, Rows};
 use score::{MOST_VOICES, Sound, WIDEST_SPAN};
-use voices::Stored;
+use voices::{Span, Stored};
 use wire::Item;
 
 /// The widest span has so many slots, one for each tick at which a note may begin.
@@ -17,12 +17,16 @@ const MOST_SLOTS: usize = WIDEST_SPAN as usize / GRAIN;
 /// There are as many cursors as there may be voices.
 const CURSORS: usize = MOST_VOICES as usize;
 
-/// The voices of a score as they lie in lent words: how many events each has, and the events of all, one voice after the other.
+/// The voices of a score as they lie in lent words: how many events each has, and the events of all, one voice after the other. With them is kept where they
+/// begin on paper, in bars of so many ticks.
 #[derive(Clone, Copy)]
 pub struct Voices<'a> {
     counts: &'a [u32],
     rows: Rows<'a>,
+    onsets: Onsets<'a>,
+    measure: usize,
     ghost laid: { Laid counts.now rows.places.now rows.alterations.now rows.lengths.now },
+    ghost timed: { AllTimed counts.now rows.lengths.now measure onsets.bars.now onsets.ticks.now },
 }
 
 impl<'a> From<Stored<'a>> for Voices<'a> {
@@ -31,16 +35,48 @@ impl<'a> From<Stored<'a>> for Voices<'a> {
     ghost from_gives = { λ s v. score_in v ≡ score_of s.words.now };
 
     fn from(score: Stored<'a>) -> Voices<'a> {
+        let rows = score.regions();
+        let all = Span {
+            begin: 0,
+            count: rows.places.len(),
+        };
         Voices {
             counts: score.counts(),
-            rows: score.regions(),
+            rows,
+            onsets: score.onsets(all),
+            measure: score.layout().bar as usize,
         }
     }
 }
 
 impl Voices<'_> {
     ghost use Rattle.rows.specs.Rows.{row_at};
+    ghost use Rattle.sounds.specs.Spans.{passed, ticks_from, part, marks};
     ghost use Rattle.sounds.specs.Scores.{score_in, all_left, IsMarked};
+
+    /// Sets a voice's bit in the slots in which it begins notes; its events lie in a span. Returns how many of them begin before the first slot.
+    fn mark_voice(self, voice: usize, span: Span, first: usize, slots: &mut [u64]) -> usize
+        requires there { voice < length self.counts.now }
+        requires begin { span.begin ≡ sum (take voice self.counts.now) }
+        requires count { span.count ≡ slice_index self.counts.now voice }
+        requires small { grain * first < 2 ^ 32 }
+        ensures index { result ≡ passed (grain * first) 0 (part self.entry.counts.now voice self.entry.rows.lengths.now) }
+        ensures marked { slots.new ≡ marks voice first (ticks_from (grain * (first + length slots.old)) (part self.entry.counts.now voice self.entry.rows.places.now) (part self.entry.counts.now voice self.entry.rows.lengths.now) result) slots.old }
+        ensures inside { result ≤ span.count }
+        ensures reached { result < span.count → grain * first ≤ sum (take result (part self.entry.counts.now voice self.entry.rows.lengths.now)) }
+    {
+        let end = span.begin + span.count;
+        let bars = &self.onsets.bars[span.begin..end];
+        let ticks = &self.onsets.ticks[span.begin..end];
+        let Some((passed, tick)) = reach(bars, ticks, self.measure, GRAIN * first) else {
+            return span.count;
+        };
+        let next = span.begin + passed;
+        let places = &self.rows.places[next..end];
+        let lengths = &self.rows.lengths[next..end];
+        mark(places, lengths, voice as u32, tick, first, slots);
+        passed
+    }
 
     /// Sets the bits of all voices in empty slots, where they begin notes. Returns which event comes first in each voice from the first slot on.
     #[tactic(auto, using(crate::proofs::Walks::ticks_more))]
@@ -53,17 +89,14 @@ impl Voices<'_> {
         let mut cursors = [0; CURSORS];
         let mut begin = 0;
         for (voice, count) in self.counts.iter().enumerate() {
-            let end = begin + *count as usize;
-            let passed = mark_voice(
-                &self.rows.places[begin..end],
-                &self.rows.lengths[begin..end],
-                voice as u32,
-                first,
-                slots,
-            );
+            let span = Span {
+                begin,
+                count: *count as usize,
+            };
+            let passed = self.mark_voice(voice, span, first, slots);
             // by its index: what is written through a zip with `iter_mut()` is not known in the loop's invariant (tried)
             cursors[voice] = begin + passed;
-            begin = end;
+            begin += span.count;
         }
         cursors
     }

@@ -13,7 +13,7 @@ mod tests {
     use wire::Item;
 
     // A score of four voices: c4, d4 and e4; nothing; a silence and g4; e4, a long silence and c4.
-    fn score() -> [u32; 36]
+    fn score() -> [u32; 61]
         ensures holds { Holds result }
         ensures limit { limit_in result ≡ 8 }
     {
@@ -23,6 +23,10 @@ mod tests {
             28, 29, 30, 70, 32, 30, 70, 28, // places
             2, 2, 2, 0, 2, 2, 0, 2, // alterations
             48, 48, 96, 48, 48, 96, 1440, 48, // lengths
+            0, 0, 0, 0, 0, 0, 0, 8, // bars
+            0, 48, 96, 0, 48, 0, 96, 0, // ticks of the bars
+            0, 0, 0, 0, 0, 0, 0, 0, // signs
+            0, // marks
         ]
     }
 

@@ -22,7 +22,7 @@ loop-place-preserved c =
     let before : c.loop-place.tick < end = omega (arith, more, c.if-slot-slots.false) in
     let sofar = rw (places, lengths) at c.loop-place.invariant.marked in record {
       short = omega (arith, left);
-      begun = λ l. omega (arith, more);
+      begun = omega arith;
       marked =
           elim c.if-place-ne-SILENT.branch [
             | then-place-ne-SILENT w ↦

@@ -1,5 +1,5 @@
 -- What is still to be marked in the slots as they are comes to the same as all of it in the slots as they came.
-use Rattle.std.proofs.Common.{◌≡◌, List, ℕ, ◌+◌, ◌*◌, ◌<◌, ◌≤◌, length, sum}
+use Rattle.std.proofs.Common.{◌≡◌, List, ℕ, ◌+◌, ◌*◌, ◌≤◌, length, sum}
 use Rattle.std.specs.Slice.Iter.{iter_rest}
 use Rattle.std.specs.Iterator.Adapters.{zip_first, zip_second}
 use Rattle.sounds.specs.Spans.{grain, note_ticks, marks}
@@ -11,6 +11,6 @@ invariant-loop-place l =
     let ds : List ℕ = iter_rest (zip_second l.place-iterator) in
     let end : ℕ = grain * (l.first + length l.initial.slots) in record {
       short : l.tick + sum ds ≡ l.start + sum l.lengths;
-      begun : 0 < length ds → grain * l.first ≤ l.tick;
+      begun : grain * l.first ≤ l.tick;
       marked : marks l.voice l.first (note_ticks end l.tick ps ds) l.slots ≡ marks l.voice l.first (note_ticks end l.start l.places l.lengths) l.initial.slots;
     }

@@ -1,17 +1,12 @@
 -- Each turn marks one voice more.
-use Rattle.std.proofs.Common.{◌≡◌, [], length, refl, arith}
+use Rattle.std.proofs.Common.{◌≡◌, length, refl, arith}
 use Rattle.std.proofs.lemmas.List.{length-set}
 use Rattle.sounds.proofs.Walks.{ticks_more}
-use Rattle.sounds.proofs.Marked.{marked_none, marked_step, marked_ready, marked_whole, part_short}
+use Rattle.sounds.proofs.Marked.{marked_none, marked_step, marked_ready, marked_whole}
 use Rattle.sounds.proofs.together.Voices.mark.Goals as goal
 
 pub loop-voice-init : goal.loop-voice-init
 loop-voice-init c = record { begins = refl; many = refl; marked = rw c.requires.empty (marked_none _ _ _ _ c.args.first _ (length c.args.slots.now) _) }
-
-pub mark_voice-passed-requires-clause-short : goal.mark_voice-passed-requires-clause-short
-mark_voice-passed-requires-clause-short c =
-    let short = part_short _ _ _ _ c.args.first 0 c.args.self.laid [] [] c.loop-voice.voice c.loop-voice.begin _ c.loop-voice-test.true c.loop-voice.invariant.begins refl in
-    omega (arith, short)
 
 pub loop-voice-preserved : goal.loop-voice-preserved
 loop-voice-preserved c =
@@ -20,7 +15,7 @@ loop-voice-preserved c =
       begins = omega (arith, more.0);
       many = simp length-set c.loop-voice.invariant.many;
       marked =
-          marked_step _ c.mark_voice-passed.result c.mark_voice-passed.new.slots c.args.self.laid c.loop-voice-test.true c.loop-voice.invariant.begins refl
+          marked_step c.mark_voice-passed.result c.mark_voice-passed.new.slots c.args.self.laid c.loop-voice-test.true c.loop-voice.invariant.begins
           (omega (arith, c.args.self.laid.few_voices)) c.loop-voice.auto.slots c.loop-voice.invariant.marked passed.index passed.reached passed.marked;
     }
 
