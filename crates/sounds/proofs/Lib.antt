@@ -6,6 +6,7 @@ pub mod Parts
 pub mod Walks
 pub mod Turned
 pub mod Writing
+pub mod Passing
 pub mod Marked
 pub mod Search
 pub mod Whole

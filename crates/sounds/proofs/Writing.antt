@@ -69,6 +69,22 @@ module _ {ns ps xs ds : List ℕ} {e : ℕ} where
       → 8 * length (all_left ns ps xs ds e start) ≤ n → 8 * count + 8 ≤ n
   writing_room n w i u h = let g = ap length u.next in omega (arith, w.many, i.many, g, h)
 
+  -- an empty slot is passed
+  pub writing_empty :
+      {start came : List ℕ} {from : ℕ} {cursors out : List ℕ} {count t m r : ℕ} {ms : List ℕ}
+      → Writing ns ps xs ds e start came from cursors out count t (m ∷ ms) → m ≡ 0 → t + grain ≡ r → Writing ns ps xs ds e start came from cursors out count r ms
+  writing_empty {start} {came} {from} {cursors} {out} {count} {t} {m} {r} {ms} w z q = record {
+    ready = record {
+      begin = subst (λ (k : ℕ). Begin (left ns ps xs ds e cursors) k ms) q (begin_later _ t m ms z w.ready.begin);
+      reached = w.ready.reached;
+    };
+    enough = w.enough;
+    front = w.front;
+    back = w.back;
+    more = w.more;
+    many = w.many;
+  }
+
   -- after the last voice of a slot comes the next slot
   pub writing_slot :
       {start came : List ℕ} {was out : List ℕ} {begun cursors : List ℕ} {before count t s m : ℕ} {ms ls : List ℕ} (r : ℕ)

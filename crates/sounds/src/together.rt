@@ -155,7 +155,9 @@ impl Marked<'_> {
     {
         let mut cursors = self.cursors;
         let mut count = 0;
-        for (index, slot) in self.slots.iter().enumerate() {
+        let slots = self.slots.iter().enumerate();
+        // most slots are empty, and are passed in a loop of their own: left to the loop over voices, a span of few notes takes half as long again
+        for (index, slot) in slots.filter(|(_, slot)| **slot != 0) {
             let start = (GRAIN * (self.first + index)) as u32;
             let mut voices = *slot;
             while voices != 0 {
