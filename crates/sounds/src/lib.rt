@@ -59,7 +59,8 @@ fn reach(bars: &[u32], ticks: &[u32], measure: usize, from: usize) -> Option<(us
 }
 
 /// Sets a voice's bit in the slots in which its notes begin, from a tick on up to the end of the slots.
-// `slots` and `first` are no struct: it would hold a `&mut`, and each contract would say besides that it lends the same slots still (no plainer)
+// `slots` and `first` are no struct: it would hold a `&mut`, and each contract would say besides that it lends the same slots still; and `places` and `lengths`
+// are no `Rows`, since alterations are not looked at (no plainer)
 fn mark(places: &[u32], lengths: &[u32], voice: u32, start: usize, first: usize, slots: &mut [u64])
     requires rows { length places.now ≡ length lengths.now }
     requires voice { voice < 64 }
