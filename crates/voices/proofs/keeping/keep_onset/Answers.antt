@@ -33,8 +33,10 @@ row_at-row-requires c = record {
 
 pub sign_in-sign-requires : goal.sign_in-sign-requires
 sign_in-sign-requires c =
-    let s = small_words _ _ _ _ _ _ _ c.requires.state.3 c.requires.state.2 (length_holds c.args.holding.now c.args.bar) in
+    let row = length_holds c.args.holding.now c.args.bar in
+    let s = small_words _ _ _ _ _ _ _ c.requires.state.3 c.requires.state.2 row in
     record {
+      bar = low_bar _ _ _ _ _ _ _ c.requires.state.3 c.requires.state.2 row;
       place = omega (arith, place_is _ c.args.words.now c.args.at c.row_at-row.ensures, s.0);
       alteration = omega (arith, alteration_is _ c.args.words.now c.args.at c.row_at-row.ensures, s.1);
     }
