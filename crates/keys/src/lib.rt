@@ -47,8 +47,8 @@ pub fn altered_by_key(signature: u32, place: u32) -> u32
 /// What holds at each place in a bar: an alteration of each. It is lent, and written while events or symbols are read.
 pub type Holds = [u32; PLACES];
 
-/// How a key alters each step of an octave, and so of every octave.
-pub fn alter_steps(signature: u32) -> [u32; 7]
+/// How a key alters each step of an octave.
+fn alter_steps(signature: u32) -> [u32; 7]
     ensures { (q : ℕ) → q < 7 → slice_index result q ≡ key signature q }
 {
     array::from_fn(|step| altered_by_key(signature, step as u32))

@@ -1,9 +1,10 @@
 -- No event has altered anything yet.
+use Rattle.std.proofs.Common.{◌∙◌}
 use Rattle.voices.proofs.Altered.{first_up_to, first_holds}
 use Rattle.voices.proofs.holding.Holding.of.Goals as goal
 
 pub returns : goal.returns
 returns c = record {
-  up_to = first_up_to c.args.signature c.alter_steps.result c.alter_steps.ensures;
-  holds = first_holds c.args.signature c.alter_steps.result c.alter_steps.ensures;
+  up_to = first_up_to c.args.signature c.copy_from_slice.new.self (c.copy_from_slice.ensures.after ∙ c.begin_bar.ensures);
+  holds = first_holds c.args.signature c.copy_from_slice.new.self (c.copy_from_slice.ensures.after ∙ c.begin_bar.ensures);
 }
