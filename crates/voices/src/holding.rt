@@ -1,9 +1,8 @@
 //! What holds at each place, in one bar after the other.
-ghost use Rattle.std.specs.Prelude.{◌≡◌, ◌==◌, ℕ, ◌+◌, ◌<◌, ◌≤◌};
-ghost use Rattle.score.specs.Calls.{ticks_end};
+ghost use Rattle.std.specs.Prelude.{◌≡◌, ◌==◌, ℕ, ◌+◌, ◌<◌, ◌≤◌, ◌≢◌};
 ghost use Rattle.score.specs.Music.{pick, places, alterations};
 ghost use Rattle.keys.specs.Held.{key_row, sign_needed, then_holding};
-ghost use Rattle.voices.specs.Holding.{held_at, holds_in, UpTo};
+ghost use Rattle.voices.specs.Holding.{no_bar, held_at, holds_in, UpTo};
 
 use keys::begin_bar;
 use score::{PLACES, SILENT};
@@ -11,7 +10,7 @@ use score::{PLACES, SILENT};
 /// All places, and that of a silence.
 const ROOM: usize = PLACES + 1;
 
-/// What holds at each place in a bar: what an event of that bar has altered there, and else the key. Bars are counted from 1 here: 0 is none.
+/// What holds at each place in a bar: what an event of that bar has altered there, and else the key.
 // No `keys::Holds`: the key's row would be copied at each bar line. Here the key holds as soon as the bar is another.
 #[derive(Drop)]
 pub(crate) struct Holding {
@@ -32,11 +31,19 @@ fn sign_word(place: u32, alteration: u32, held: u32) -> u32
     }
 }
 
+/// Another bar than one, and none behind it.
+fn other_bar(bar: u32) -> u32
+    ensures other { result ≢ bar }
+    ensures not_later { (later : ℕ) → bar < later → later < no_bar → result ≢ later }
+{
+    if bar > 0 { bar - 1 } else { u32::MAX }
+}
+
 impl Holding {
-    /// The key holds, in whatever bar.
-    pub(crate) fn of(signature: u32) -> Holding
-        ensures up_to { (bar : ℕ) → UpTo signature result bar }
-        ensures holds { (bar : ℕ) → holds_in result bar ≡ key_row signature }
+    /// The key holds in a bar.
+    pub(crate) fn of(signature: u32, bar: u32) -> Holding
+        ensures up_to { UpTo signature result bar }
+        ensures holds { holds_in result bar ≡ key_row signature }
     {
         let mut row = [0; PLACES];
         begin_bar(signature, &mut row);
@@ -45,18 +52,17 @@ impl Holding {
         Holding {
             key,
             altered: [0; ROOM],
-            bars: [0; ROOM],
+            bars: [other_bar(bar); ROOM],
         }
     }
 
     /// What holds in a bar at a place.
     fn held(&self, bar: u32, place: u32) -> u32
-        requires bar { bar < ticks_end }
         requires place { place ≤ places }
         ensures { result ≡ held_at self.now bar place }
     {
         let at = place as usize;
-        if self.bars[at] == bar + 1 {
+        if self.bars[at] == bar {
             self.altered[at]
         } else {
             self.key[at]
@@ -65,7 +71,6 @@ impl Holding {
 
     /// The word of the sign that an event of a bar needs. From then on its alteration holds at its place.
     pub(crate) fn sign_in(&mut self, bar: u32, place: u32, alteration: u32) -> u32
-        requires bar { bar < ticks_end }
         requires place { place ≤ places }
         requires alteration { alteration < alterations }
         ensures sign { result ≡ sign_needed (holds_in self.old bar) place alteration }
@@ -75,7 +80,7 @@ impl Holding {
         let held = self.held(bar, place);
         let at = place as usize;
         self.altered[at] = alteration;
-        self.bars[at] = bar + 1;
+        self.bars[at] = bar;
         sign_word(place, alteration, held)
     }
 }

@@ -84,7 +84,7 @@ fn derive(words: &mut [u32], regions: Regions, first: usize, bar: u32, tick: u32
     ensures { words.new ≡ kept_anew words.old }
 {
     let measure = words[BAR];
-    let mut holding = Holding::of(words[KEY]);
+    let mut holding = Holding::of(words[KEY], bar);
     let (mut at, mut bar, mut tick) = (first, bar, tick);
     'runs: while is_marked(&words[regions.marks..], at) {
         let end = take_run(&mut words[regions.marks..], at);

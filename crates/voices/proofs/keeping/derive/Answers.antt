@@ -12,10 +12,10 @@ use Rattle.voices.proofs.keeping.derive.Goals as goal
 
 pub runs-init : goal.runs-init
 runs-init c = (
-  subst (λ g. Deriving c.args.words.now c.args.first c.args.bar c.args.tick g) (sym (held_key (get_or c.args.words.now 0 0) _ (c.of-holding.ensures.holds c.args.bar))) c.requires.state,
+  subst (λ g. Deriving c.args.words.now c.args.first c.args.bar c.args.tick g) (sym (held_key (get_or c.args.words.now 0 0) _ c.of-holding.ensures.holds)) c.requires.state,
   refl,
   refl,
-  c.of-holding.ensures.up_to c.args.bar,
+  c.of-holding.ensures.up_to,
 )
 
 pub is_marked-requires : goal.is_marked-requires
