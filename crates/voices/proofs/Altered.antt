@@ -4,13 +4,14 @@ use native.Mathlib.Nat.{div-eq_of_lt, div-eq-sub-div}
 use Rattle.std.proofs.lemmas.List.FromFn.{length-map-range_with_len, get_or-map-range_with_len, fill_by_all}
 use Rattle.std.proofs.lemmas.List.{get_or-set_same, get_or-set_other, get_or_append_left, get_or-replicate, get_or_past, length-set, length-replicate}
 use Rattle.std.proofs.lemmas.Bool.{leb-true, leb-false, eqb-true, eqb-false, eq-eqb, ne_eqb, cases_lt}
+use Rattle.std.proofs.Math.Nat.{div-le_self}
 use Rattle.score.specs.Music.{pick, places}
 use Rattle.score.specs.Print.{key}
 use Rattle.score.proofs.Picks.{pick_true, pick_false, pick_both}
 use Rattle.keys.specs.Held.{key_row, held_in, sign_needed, then_holding}
 use Rattle.keys.proofs.Holding.{length_key_row, held_key}
 use Rattle.voices.specs.declared.holding.Holding.{Holding}
-use Rattle.voices.specs.Holding.{held_at, holds_in, UpTo}
+use Rattle.voices.specs.Holding.{no_bar, held_at, holds_in, UpTo}
 
 module _ (h : Holding) (bar : ℕ) where
   pub length_holds : length (holds_in h bar) ≡ places
@@ -65,33 +66,33 @@ module _ (h : Holding) (bar p a : ℕ) (le : p ≤ places) where
   pub up_to : p < length h.bars → (k : ℕ) → UpTo k h bar → UpTo k then bar
   up_to lb k u = record {
     by_key = u.by_key;
-    not_later = λ q. elim (same q p) [
-      | inl w ↦ let x = ap (λ i. get_or (set h.bars p bar) i 0) w ∙ get_or-set_same h.bars p bar 0 lb in omega (arith, x)
-      | inr w ↦ let x = get_or-set_other h.bars p q bar 0 w in let b = u.not_later q in omega (arith, x, b)
+    not_later = λ q later lt small e. elim (same q p) [
+      | inl w ↦ let x = ap (λ i. get_or (set h.bars p bar) i 0) w ∙ get_or-set_same h.bars p bar 0 lb in omega (arith, x, e, lt)
+      | inr w ↦ u.not_later q later lt small (sym (get_or-set_other h.bars p q bar 0 w) ∙ e)
     ];
   }
 
 -- in a later bar the key holds
-pub later_bar : (k : ℕ) (h : Holding) (bar later : ℕ) → UpTo k h bar → bar < later → holds_in h later ≡ key_row k
+pub later_bar : (k : ℕ) (h : Holding) (bar later : ℕ) → UpTo k h bar → bar < later → later < no_bar → holds_in h later ≡ key_row k
 unfolding key_row
-later_bar k h bar later u lt =
+later_bar k h bar later u lt small =
     fill_by_all (key k) (holds_in h later) places 0 (length_holds h later) (λ q l.
-    holds_word h later q l ∙ (pick_false _ _ _ (ne_eqb (get_or h.bars q 0) later (λ e. let b = u.not_later q in omega (arith, e, b, lt))) ∙ u.by_key q l))
+    holds_word h later q l ∙ (pick_false _ _ _ (ne_eqb (get_or h.bars q 0) later (u.not_later q later lt small)) ∙ u.by_key q l))
 
 pub up_to_later : (k : ℕ) (h : Holding) (bar later : ℕ) → UpTo k h bar → bar ≤ later → UpTo k h later
-up_to_later k h bar later u le = record { by_key = u.by_key; not_later = λ q. let b = u.not_later q in omega (arith, b, le) }
+up_to_later k h bar later u le = record { by_key = u.by_key; not_later = λ q at lt small. u.not_later q at (omega (arith, lt, le)) small }
 
 -- behind an event that ends so many ticks behind the beginning of a bar: over a line the key holds
-pub next_holds : (k : ℕ) (h : Holding) (bar t b : ℕ) → UpTo k h bar → 0 < b → pick (leb b t) (key k) (held_in k (holds_in h bar)) ≡ held_in k (holds_in h (bar + t / b))
-next_holds k h bar t b u pos =
+pub next_holds : (k : ℕ) (h : Holding) (bar t b : ℕ) → UpTo k h bar → 0 < b → bar + t < no_bar → pick (leb b t) (key k) (held_in k (holds_in h bar)) ≡ held_in k (holds_in h (bar + t / b))
+next_holds k h bar t b u pos small =
     pick_both (λ g. g ≡ held_in k (holds_in h (bar + t / b))) (leb b t) (key k) (held_in k (holds_in h bar))
-    (λ e. let le = leb-true b t e in let one : t / b ≡ (t - b) / b + 1 = div-eq-sub-div pos le in sym (held_key k (holds_in h (bar + t / b)) (later_bar k h bar (bar + t / b) u (omega (arith, one)))))
+    (λ e. let le = leb-true b t e in let one : t / b ≡ (t - b) / b + 1 = div-eq-sub-div pos le in let d = div-le_self t b in sym (held_key k (holds_in h (bar + t / b)) (later_bar k h bar (bar + t / b) u (omega (arith, one)) (omega (arith, d, small)))))
     (λ e. let lt = leb-false b t e in let z : t / b ≡ 0 = div-eq_of_lt lt in let s : bar ≡ bar + t / b = omega (arith, z) in ap (λ i. held_in k (holds_in h i)) s)
 
 -- where the key holds at first
-module _ (k bar : ℕ) (row : List ℕ) (e : row ≡ key_row k) where
+module _ (k bar other : ℕ) (row : List ℕ) (e : row ≡ key_row k) (ne : other ≡ bar → ⊥) (behind : (later : ℕ) → bar < later → later < no_bar → other ≡ later → ⊥) where
   abbrev first : Holding
-  first = record { key = row ++ (0 ∷ []); altered = row ++ (0 ∷ []); bars = replicate 71 bar }
+  first = record { key = row ++ (0 ∷ []); altered = replicate 71 0; bars = replicate 71 other }
 
   key_word : (q : ℕ) → q < places → get_or (row ++ (0 ∷ [])) q 0 ≡ key k q
   unfolding key_row
@@ -102,9 +103,9 @@ module _ (k bar : ℕ) (row : List ℕ) (e : row ≡ key_row k) where
   pub first_up_to : UpTo k first bar
   first_up_to = record {
     by_key = key_word;
-    not_later = λ q. elim (cases_lt q 71) [
-      | inl l ↦ let x = get_or-replicate 71 q bar 0 l in omega (arith, x)
-      | inr l ↦ let x = get_or_past (replicate 71 bar) q 0 (let r = length-replicate 71 bar in omega (arith, r, l)) in omega (arith, x)
+    not_later = λ q later lt small is. elim (cases_lt q 71) [
+      | inl l ↦ behind later lt small (sym (get_or-replicate 71 q other 0 l) ∙ is)
+      | inr l ↦ let x = get_or_past (replicate 71 other) q 0 (let r = length-replicate 71 other in omega (arith, r, l)) in omega (arith, x, is, lt)
     ];
   }
 
@@ -112,4 +113,4 @@ module _ (k bar : ℕ) (row : List ℕ) (e : row ≡ key_row k) where
   unfolding key_row
   first_holds =
       fill_by_all (key k) (holds_in first bar) places 0 (length_holds first bar) (λ q l.
-      holds_word first bar q l ∙ (pick_both (λ x. x ≡ key k q) (eqb (get_or (replicate 71 bar) q 0) bar) (get_or (row ++ (0 ∷ [])) q 0) (get_or (row ++ (0 ∷ [])) q 0) (λ _. key_word q l) (λ _. key_word q l)))
+      holds_word first bar q l ∙ (pick_false _ _ _ (ne_eqb (get_or (replicate 71 other) q 0) bar (λ z. ne (sym (get_or-replicate 71 q other 0 (omega (arith, l))) ∙ z))) ∙ key_word q l))

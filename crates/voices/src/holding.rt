@@ -1,8 +1,8 @@
 //! What holds at each place, in one bar after the other.
-ghost use Rattle.std.specs.Prelude.{◌≡◌, ◌==◌, ℕ, ◌+◌, ◌<◌, ◌≤◌};
+ghost use Rattle.std.specs.Prelude.{◌≡◌, ◌==◌, ℕ, ◌+◌, ◌<◌, ◌≤◌, ◌≢◌};
 ghost use Rattle.score.specs.Music.{pick, places, alterations};
 ghost use Rattle.keys.specs.Held.{key_row, sign_needed, then_holding};
-ghost use Rattle.voices.specs.Holding.{held_at, holds_in, UpTo};
+ghost use Rattle.voices.specs.Holding.{no_bar, held_at, holds_in, UpTo};
 
 use keys::begin_bar;
 use score::{PLACES, SILENT};
@@ -31,6 +31,14 @@ fn sign_word(place: u32, alteration: u32, held: u32) -> u32
     }
 }
 
+/// Another bar than one, and none behind it.
+fn other_bar(bar: u32) -> u32
+    ensures other { result ≢ bar }
+    ensures not_later { (later : ℕ) → bar < later → later < no_bar → result ≢ later }
+{
+    if bar > 0 { bar - 1 } else { u32::MAX }
+}
+
 impl Holding {
     /// The key holds in a bar.
     pub(crate) fn of(signature: u32, bar: u32) -> Holding
@@ -41,17 +49,16 @@ impl Holding {
         begin_bar(signature, &mut row);
         let mut key = [0; ROOM];
         key[..PLACES].copy_from_slice(&row);
-        let bars = [bar; ROOM];
         Holding {
             key,
-            altered: key,
-            bars,
+            altered: [0; ROOM],
+            bars: [other_bar(bar); ROOM],
         }
     }
 
     /// What holds in a bar at a place.
     fn held(&self, bar: u32, place: u32) -> u32
-        requires { place ≤ places }
+        requires place { place ≤ places }
         ensures { result ≡ held_at self.now bar place }
     {
         let at = place as usize;

@@ -33,7 +33,8 @@ row_at-row-requires c = record {
 
 pub sign_in-sign-requires : goal.sign_in-sign-requires
 sign_in-sign-requires c =
-    let s = small_words _ _ _ _ _ _ _ c.requires.state.3 c.requires.state.2 (length_holds c.args.holding.now c.args.bar) in
+    let row = length_holds c.args.holding.now c.args.bar in
+    let s = small_words _ _ _ _ _ _ _ c.requires.state.3 c.requires.state.2 row in
     record {
       place = omega (arith, place_is _ c.args.words.now c.args.at c.row_at-row.ensures, s.0);
       alteration = omega (arith, alteration_is _ c.args.words.now c.args.at c.row_at-row.ensures, s.1);
@@ -75,7 +76,7 @@ returns c =
           let Next : List ℕ → ℕ → List ℕ → Type 0 = λ x l hs. Ahead x whole (at + 1) to (bar + (tick + l) / b) ((tick + l) % b) (pick (leb b (tick + l)) (key k) (held_in k hs)) in
           let n1 : Next c.write_onset.new.words (get_or w (lengths_from w + at) 0) (then_holding hs p a) = subst (λ x. Next x (get_or w (lengths_from w + at) 0) (then_holding hs p a)) (sym written) (then_ahead w whole hs at to bar tick t lt row) in
           let n2 : Next c.write_onset.new.words r (holds_in h bar) = subst (λ z. Next c.write_onset.new.words r z) holds (subst (λ l. Next c.write_onset.new.words l (then_holding hs p a)) (sym le) n1) in
-          subst (λ g. Ahead c.write_onset.new.words whole (at + 1) to (bar + (tick + r) / b) ((tick + r) % b) g) (next_holds k h bar (tick + r) b u pos) n2;
+          subst (λ g. Ahead c.write_onset.new.words whole (at + 1) to (bar + (tick + r) / b) ((tick + r) % b) g) (next_holds k h bar (tick + r) b u pos (omega (arith, le, (small_words _ _ _ _ _ _ _ t lt row).2, low_bar _ _ _ _ _ _ _ t lt row, low_tick _ _ _ _ _ _ _ t lt row))) n2;
       up_to = up_to_later k h bar (bar + (tick + r) / b) u (omega arith);
       header = ap (take counts_from) written ∙ same_header w _ hs at _ bar tick t lt row;
       small = omega (arith, le, (small_words _ _ _ _ _ _ _ t lt row).2, low_bar _ _ _ _ _ _ _ t lt row, low_tick _ _ _ _ _ _ _ t lt row);
