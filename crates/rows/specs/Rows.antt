@@ -1,5 +1,5 @@
 -- What three words, and three rows of words, mean. Assumes nothing: these are definitions.
-use Rattle.std.specs.Prelude.{◌≡◌, ℕ, Bool, true, false, ◌&&◌, ◌||◌, List, [], ◌∷◌, length, Option, Result, MatchResult, ◌==◌, nat_lt, slice_index}
+use Rattle.std.specs.Prelude.{◌≡◌, ℕ, Bool, true, false, ◌&&◌, ◌||◌, List, [], ◌∷◌, length, Option, MatchOption, Result, MatchResult, ◌==◌, nat_lt, slice_index}
 use Rattle.std.specs.Iterator.{YieldsFirst}
 use Rattle.score.specs.declared.Event.{Event as EventType}
 use Rattle.score.specs.Music.{Event, note, silence, lasts, places, length_end}
@@ -47,9 +47,15 @@ row_at r i = record { place = slice_index r.places.now i; alteration = slice_ind
 abbrev pub IsEven : Rows → Type 0
 IsEven r = (length r.alterations.now ≡ length r.places.now) × (length r.lengths.now ≡ length r.places.now)
 
--- one step along rows: the first event of what was left comes, and rows of one length stay so
+-- a word of each row comes, and the others are left; where one row is over, all are left as they were
+abbrev pub GoesOn : Rows → Option Row → Rows → Type 0
+GoesOn r o rest =
+    MatchOption o (rest ≡ r)
+    (λ e. (r.places.now ≡ e.place ∷ rest.places.now) × (r.alterations.now ≡ e.alteration ∷ rest.alterations.now) × (r.lengths.now ≡ e.length ∷ rest.lengths.now))
+
+-- one step along rows: the first event of what was left comes, rows of one length stay so, and each row goes on by a word
 abbrev pub Steps : Rows → Option Row → Rows → Type 0
-Steps r o rest = YieldsFirst (λ s. zipped s.places.now s.alterations.now s.lengths.now) r o rest × (IsEven r → IsEven rest)
+Steps r o rest = YieldsFirst (λ s. zipped s.places.now s.alterations.now s.lengths.now) r o rest × (IsEven r → IsEven rest) × GoesOn r o rest
 
 -- the voice in three rows
 abbrev pub voice_in : Rows → List Event

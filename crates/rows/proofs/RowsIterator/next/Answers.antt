@@ -15,7 +15,7 @@ returns-in_err-length-clause-steps c = let e = no_lengths c.args.self.now.places
 
 pub returns-clause-steps : goal.returns-clause-steps
 unfolding zipped
-returns-clause-steps c = rw (c.in_ok-place.ensures.cases.0, c.in_ok-alteration.ensures.cases.0, c.in_ok-length.ensures.cases.0) (refl, λ e. (omega (arith, e.0), omega (arith, e.1)))
+returns-clause-steps c = rw (c.in_ok-place.ensures.cases.0, c.in_ok-alteration.ensures.cases.0, c.in_ok-length.ensures.cases.0) (refl, λ e. (omega (arith, e.0), omega (arith, e.1)), (refl, refl, refl))
 
 pub returns-clause-goes : goal.returns-clause-goes
 unfolding zipped
