@@ -20,7 +20,8 @@ fn told(
     name: &str,
     read: io::Result<Vec<u8>>,
 ) -> io::Result<Vec<u8>>
-    ensures { (bytes : _) → read ≡ Ok bytes → result ≡ Ok bytes }
+    ensures kept { (bytes : _) → read ≡ Ok bytes → result ≡ Ok bytes }
+    ensures only { (bytes : _) → result ≡ Ok bytes → read ≡ Ok bytes }
 {
     if let Err(reason) = &read {
         eprintln!(rt; "{program}: cannot read {name}: {reason}")?;

@@ -1,5 +1,5 @@
 -- The symbols that a row of bytes begins with, up to the first that cannot be played. Assumes nothing: these are definitions.
-use Rattle.std.specs.Prelude.{◌≡◌, ℕ, ◌+◌, ◌*◌, List, [], ◌∷◌, length, Some, None, Ok, Err, Option, Result, nat_lt}
+use Rattle.std.specs.Prelude.{◌≡◌, ℕ, ◌*◌, List, [], ◌∷◌, length, drop, Some, None, Ok, Err, Option, Result, nat_lt}
 use Rattle.std.specs.Iterator.{YieldsFirstBy}
 use Rattle.score.specs.declared.Symbol.{Symbol as SymbolType}
 use Rattle.score.specs.Meaning.{symbol_meant}
@@ -34,7 +34,7 @@ taken_with (Some x) = 5
 -- one step: the first of the symbols is given and its bytes are taken; where none is left, nothing is taken
 pub record Steps (s : Symbols) (r : Option SymbolType) (t : Symbols) : Type 0 where
   pub gives : YieldsFirstBy symbol_meant (λ u. symbols_of u.0.now) s r t
-  pub takes : taken_with r + length t.0.now ≡ length s.0.now
+  pub takes : t.0.now ≡ drop (taken_with r) s.0.now
 
 -- how many notes are heard of bytes that are such symbols to their end, or else the byte where the first stands that cannot be played
 abbrev pub outcome : ℕ → List ℕ → Result ℕ ℕ

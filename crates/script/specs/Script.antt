@@ -27,6 +27,17 @@ opening_in ls =
     then (setting_in (codes "voices") b.1) (λ v. then (setting_in (codes "events") v.1) (λ e.
     Ok (record { key = k.0; bar = b.0; voices = v.0; events = e.0 }, e.1)))))
 
+-- lines that are left: behind what one gave, or these where it gave nothing
+abbrev pub then_left : {A : Type 0} → Result A ℕ → List (List ℕ) → (A → List (List ℕ)) → List (List ℕ)
+then_left (Ok a) ls f = f a
+then_left (Err n) ls f = ls
+
+-- the lines that an opening leaves, read or not: those behind the fourth, or behind the first that cannot be read
+abbrev pub left_by_opening : List (List ℕ) → List (List ℕ)
+left_by_opening ls =
+    then_left (setting_in (codes "key") ls) (drop 1 ls) (λ k. then_left (setting_in (codes "bar") k.1) (drop 1 k.1) (λ b.
+    then_left (setting_in (codes "voices") b.1) (drop 1 b.1) (λ v. drop 1 v.1)))
+
 -- the same as the code has it, which keeps the lines that are left
 abbrev pub with_rest : {A : Type 0} → Result A Unfit → Lines → Result (A × List (List ℕ)) ℕ
 with_rest (Ok a) s = Ok (a, lines_in s)

@@ -2,7 +2,7 @@
 ghost use Rattle.std.specs.Prelude.{◌≡◌, ◌<◌, ◌∷◌, ◌==◌, length, drop, position};
 ghost use Rattle.std.specs.Iterator.{YieldsFirstRef, item_count};
 ghost use Rattle.script.specs.Lines.{line_end, all_lines, says, lines, lines_in};
-ghost use Rattle.script.specs.Script.{with_rest, setting_in, opening_in};
+ghost use Rattle.script.specs.Script.{with_rest, setting_in, opening_in, left_by_opening};
 
 use score::Opening;
 use text::{Unfit, read_setting};
@@ -59,9 +59,10 @@ impl<'a> Lines<'a> {
         read_setting(self.next().unwrap_or(&[]), name)
     }
 
-    /// The opening that the next four lines say, which are taken.
+    /// The opening that the next four lines say, which are taken. If one cannot be read, those behind it are left.
     pub fn opening(&mut self) -> Result<Opening, Unfit>
-        ensures { with_rest result self.new ≡ opening_in (lines_in self.old) }
+        ensures said { with_rest result self.new ≡ opening_in (lines_in self.old) }
+        ensures left { lines_in self.new ≡ left_by_opening (lines_in self.old) }
     {
         Ok(Opening {
             key: self.setting("key")?,

@@ -56,7 +56,7 @@ symbols-preserved c = record {
   in_time = omega (arith, ap length c.in-Some.ensures.steps.gives, short (goal.at.symbols-preserved c).In-Some, ap (λ (y : State). y.time) c.play-played.ensures.keeps ∙ time_after c.args.signature (symbol_meant c.in-Some.symbol) (state_of c.symbols.player.0 c.symbols.player.1.0 c.symbols.holds));
   row = omega arith;
   within = search rules;
-  taken = omega (arith, ap length c.in-Some.ensures.steps.gives, c.in-Some.ensures.steps.takes);
+  taken = omega (arith, ap length c.in-Some.ensures.steps.gives, few_symbols c.symbols.symbols.0.now, ap length c.in-Some.ensures.steps.takes ∙ length-drop 5 c.symbols.symbols.0.now);
 }
 
 -- at the end no symbol is left, and what is held is let go
@@ -79,5 +79,5 @@ returns c =
       notes = (all w).1;
       wrote = (all w).0;
       rest = w.back;
-      taken = omega (arith, ap length c.in_default.ensures.steps.gives.0, ap length c.in_default.ensures.steps.gives.1, c.in_default.ensures.steps.takes);
+      taken = omega (arith, ap length c.in_default.ensures.steps.gives.0, ap length c.in_default.ensures.steps.gives.1, ap length c.in_default.ensures.steps.takes);
     }

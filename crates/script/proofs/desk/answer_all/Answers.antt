@@ -9,4 +9,4 @@ use Rattle.script.proofs.desk.answer_all.Goals as goal
 pub returns-in_ok-writeln-in-Err : goal.returns-in_ok-writeln-in-Err
 returns-in_ok-writeln-in-Err c =
     one_line _ _ (refused 1 c.in-Err.unfit.at) c.in_ok-writeln-in-Err.ensures.bytes
-    ∙ ap (λ (r : Result (Opening × List (List ℕ)) ℕ). string_bytes c.args.out.now ++ answer_lines (answers_by r)) (c.in-Err.ensures ∙ ap opening_in c.of-lines.ensures)
+    ∙ ap (λ (r : Result (Opening × List (List ℕ)) ℕ). string_bytes c.args.out.now ++ answer_lines (answers_by r)) (c.in-Err.ensures.said ∙ ap opening_in c.of-lines.ensures)
