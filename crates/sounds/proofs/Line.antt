@@ -76,7 +76,7 @@ none_left n e = rw (voice_zipped n.rows.places.now n.rows.alterations.now n.rows
 
 -- after silences it is one step still
 pub silences_passed : {n : Notes} (a m : Notes) (o : Option Sound) → n.voice ≡ a.voice → heard_yet n ≡ heard_yet a → Steps n o m → Steps a o m
-silences_passed a m None v h s = record { same_voice = s.same_voice ∙ v; gives = sym h ∙ s.gives }
+silences_passed a m None v h s = record { same_voice = s.same_voice ∙ v; gives = (sym h ∙ s.gives.0, s.gives.1) }
 silences_passed a m (Some x) v h s = record { same_voice = s.same_voice ∙ v; gives = (s.gives.0 ∙ v, sym h ∙ s.gives.1) }
 
 -- the notes of a voice of words that hold a score, before the first

@@ -26,10 +26,10 @@ pub record Playable (n : Notes) : Type 0 where
   pub fines : all_fine (events_yet n) ≡ true
   pub short : n.tick + total (events_yet n) < ticks_end
 
--- one step: no note comes where none is left; else the first of them, and the rest is left
+-- one step: no note comes where none is left, and none is left then; else the first of them, and the rest is left
 pub record Steps (n : Notes) (r : Option Sound) (m : Notes) : Type 0 where
   pub same_voice : m.voice ≡ n.voice
-  pub gives : MatchOption r (heard_yet n ≡ []) (λ x. (x.voice ≡ n.voice) × (heard_yet n ≡ (sound_meant x).1 ∷ heard_yet m))
+  pub gives : MatchOption r ((heard_yet n ≡ []) × (heard_yet m ≡ [])) (λ x. (x.voice ≡ n.voice) × (heard_yet n ≡ (sound_meant x).1 ∷ heard_yet m))
 
 -- what comes of calls until no note comes is all that is heard yet
 abbrev pub NotesHeard : Type 0

@@ -1,5 +1,6 @@
 -- Each turn passes over a silence, or gives the note that comes next.
 use Rattle.std.proofs.Common.{sym, ◌∙◌, arith}
+use Rattle.sounds.specs.declared.single.Notes.{Notes}
 use Rattle.sounds.proofs.Line.{Came, came, none_left, silences_passed}
 use Rattle.sounds.proofs.single.NotesIterator.next.Goals as goal
 use Rattle.sounds.proofs.single.NotesIterator.next.Goals.{In-Some}
@@ -39,4 +40,8 @@ returns-then-not-is_silent c =
     }
 
 pub returns-clause-steps : goal.returns-clause-steps
-returns-clause-steps c = record { same_voice = c.loop-row.invariant.same_voice; gives = sym c.loop-row.invariant.same_heard ∙ none_left c.loop-row.self c.in_default.ensures.steps.0.0 }
+returns-clause-steps c =
+    let ended : Notes = record { voice = c.loop-row.self.voice; rows = c.next.new.self; tick = c.loop-row.self.tick } in record {
+      same_voice = c.loop-row.invariant.same_voice;
+      gives = (sym c.loop-row.invariant.same_heard ∙ none_left c.loop-row.self c.in_default.ensures.steps.0.0, none_left ended c.in_default.ensures.steps.0.1);
+    }
