@@ -2,7 +2,7 @@
 use Rattle.std.proofs.Common.{◌≡◌, ℕ, suc, ◌<◌, ◌≤◌, eqb, ltb, List, length, get_or, set, sym, refl, ap, ◌∙◌, arith}
 use mathlib.Core.Path.{fun_ext}
 use Rattle.std.proofs.lemmas.List.FromFn.{length-map-range_with_len, get_or-map-range_with_len}
-use Rattle.std.proofs.lemmas.List.{get_or-set_same, get_or-set_other, length-set}
+use Rattle.std.proofs.lemmas.List.{get_or-set_same, get_or-set_other}
 use Rattle.std.proofs.lemmas.Bool.{eqb-true, eqb-false, ltb-true, lt-ltb}
 use Rattle.score.specs.Music.{pick, places}
 use Rattle.score.specs.Print.{key, now}
@@ -42,6 +42,3 @@ pub holding_is : (k : ℕ) (hs : List ℕ) (p a : ℕ) → p ≤ places → leng
 holding_is k hs p a h l =
     pick_both (λ (g : ℕ → ℕ). held_in k (then_holding hs p a) ≡ g) (eqb p places) (held_in k hs) (now (held_in k hs) p a) (λ e. ap (held_in k) (pick_true _ _ _ e))
     (λ e. let n = eqb-false p places e in ap (held_in k) (pick_false _ _ _ e) ∙ held_set k hs p a (omega arith) (omega arith))
-
-pub length_holding : (hs : List ℕ) (p a : ℕ) → length (then_holding hs p a) ≡ length hs
-length_holding hs p a = pick_both (λ (ws : List ℕ). length ws ≡ length hs) (eqb p places) hs (set hs p a) (λ _. refl) (λ _. length-set hs p a)

@@ -11,7 +11,6 @@ use Rattle.laws.specs.Onsets.{Onset, sign_at, then_held, onsets, bars_of, ticks_
 use Rattle.laws.specs.Owed.{sign_of}
 use Rattle.laws.specs.Rows.{event_of}
 use Rattle.laws.proofs.Events.{fine_lasts}
-use Rattle.laws.proofs.Rows.{rest_of, voice_at, lasts_words}
 use Rattle.laws.proofs.Laid.{next_below}
 
 -- the signs of events that follow one another from tick o of bar n on
@@ -38,23 +37,6 @@ held_words st p a d = go (eqb p 70)
     go : (c : Bool) → then_held st (pick c (silence d) (note p a d)) ≡ pick c st (now st p a)
     go true = refl
     go false = refl
-
--- the events from the i-th on, by its words p, a and d
-pub onsets_at : (k b n o : ℕ) (st : ℕ → ℕ) (ps xs ds : List ℕ) (i p a d : ℕ) → i < length ds → length ps ≡ length ds → length xs ≡ length ds →
-    get_or ps i 0 ≡ p → get_or xs i 0 ≡ a → get_or ds i 0 ≡ d →
-    onsets k b n o st (rest_of ps xs ds i)
-    ≡ record { bar = n; tick = o; sign = pick (eqb p 70) 0 (sign_of st p a) }
-    ∷ onsets k b (n + (o + d) / b) ((o + d) % b) (pick (leb b (o + d)) (key k) (pick (eqb p 70) st (now st p a))) (rest_of ps xs ds (i + 1))
-unfolding onsets
-onsets_at k b n o st ps xs ds i p a d h e f u v w =
-    ap (onsets k b n o st) (voice_at ps xs ds i h e f ∙ ap (λ (x : ℕ). event_of x (get_or xs i 0) (get_or ds i 0) ∷ es) u ∙ ap₂ (λ (x y : ℕ). event_of p x y ∷ es) v w)
-    ∙ ap₂ (λ (s : ℕ) (g : ℕ → ℕ). record { bar = n; tick = o; sign = s } ∷ onsets k b (n + (o + lasts (event_of p a d)) / b) ((o + lasts (event_of p a d)) % b) (pick (leb b (o + lasts (event_of p a d))) (key k) g) es)
-    (sign_words st p a d) (held_words st p a d)
-    ∙ ap (λ (x : ℕ). record { bar = n; tick = o; sign = pick (eqb p 70) 0 (sign_of st p a) } ∷ onsets k b (n + (o + x) / b) ((o + x) % b) (pick (leb b (o + x)) (key k) (pick (eqb p 70) st (now st p a))) es)
-    (lasts_words p a d)
-  where
-    es : List Event
-    es = rest_of ps xs ds (i + 1)
 
 pub length_onsets : (k b n o : ℕ) (st : ℕ → ℕ) (es : List Event) → length (onsets k b n o st es) ≡ length es
 unfolding onsets

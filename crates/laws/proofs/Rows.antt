@@ -73,13 +73,6 @@ fine_words p a d f = go (eqb p 70) refl f
         let m = and_parts _ _ l.0 in
         record { place = omega arith; alters = (λ _. ltb-true a 5 w.1); some = ltb-true 0 d m.0; three = eqb-true _ 0 l.1; short = ltb-true d 65536 m.1 }
 
-pub words_at : (ps xs ds : List ℕ) (i : ℕ) → i < length ds → length ps ≡ length ds → length xs ≡ length ds → all_fine (voice_of ps xs ds) ≡ true →
-    Words (get_or ps i 0) (get_or xs i 0) (get_or ds i 0)
-unfolding all_fine
-words_at ps xs ds i h e f g =
-    let w = and_parts _ _ (sym (ap all_fine (voice_at ps xs ds i h e f)) ∙ fine_from ps xs ds i g) in
-    fine_words (get_or ps i 0) (get_or xs i 0) (get_or ds i 0) w.0
-
 pub lasts_words : (p a d : ℕ) → lasts (event_of p a d) ≡ d
 unfolding lasts
 lasts_words p a d = go (eqb p 70)

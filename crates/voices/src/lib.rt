@@ -1,4 +1,4 @@
-//! Voices in lent words: where the events of a voice lie, how long it is, and the calls that put, cut and change events.
+//! Voices in lent words: where the events of a voice lie, where each begins on paper, how long the voice is, and the calls that put, cut and change events.
 #![tactic(auto)]
 
 ghost use Rattle.std.specs.Prelude.{◌≡◌, ◌+◌, ◌^◌, ◌<◌, ◌≤◌, true, false, length, take, drop, MatchOption};
