@@ -34,8 +34,8 @@ module _ (w b input w' b' : List ℕ) (long : ℕ) (ready : Ready w b) (is : Ans
   unfolding answer_by
   short (Ok c) e =
       let W : List ℕ = take (words_taken w) w in
-      let few = answers_short (limits_of W) (layout_of W) (score_of W) c ready.holds.good_layout ready.holds.kept in
-      let limit = ready.holds.few_events in omega (arith, few, limit)
+      let few = answers_short (limits_of W) (layout_of W) (score_of W) c ready.holds.proper.good_layout ready.holds.proper.kept in
+      let limit = ready.holds.proper.good_limits.2 in omega (arith, few, limit)
   short (Err a) e =
       let six : length (answer_bytes a) ≡ 6 = ap (λ (x : Answer). length (answer_bytes x)) (place_right input a e).1 in omega (arith, six)
 

@@ -11,7 +11,7 @@ use Rattle.laws.proofs.Reaching.{no_onset, bar_behind, tick_behind, first_of_bar
 use Rattle.marks.specs.Marked.{has, marked}
 use Rattle.marks.proofs.Bits.{length_marked, marked_first, unmarked_first, marked_none}
 use Rattle.memory.specs.Store.{all_onsets, onset_rows, no_marks, marks_asked, headed, stored, limit_in, bars_from, beats_from, marks_from, limits_of, layout_of, score_of, Kept}
-use Rattle.memory.specs.Words.{kept_anew, onsets_in, onsets_with, Stale, Unkept, Deriving}
+use Rattle.memory.specs.Words.{Proper, kept_anew, onsets_in, onsets_with, Stale, Unkept, Deriving}
 use Rattle.memory.specs.Moves.{rows_set}
 use Rattle.memory.proofs.Scores.{fines_voice, short_voice, spread_split, voice_le}
 use Rattle.memory.proofs.Back.{length_region}
@@ -109,27 +109,27 @@ module _ (w : List ℕ) (at bar tick : ℕ) (st : ℕ → ℕ) (d : Deriving w a
   abbrev all : List Onset
   all = onsets_with (layout_of w) (score_of w) d.voice_number d.stale.old
 
-  good_limits : GoodLimits L
-  good_limits = (d.stale.some_voices, d.stale.few_voices, d.stale.few_events)
+  proper : Proper w
+  proper = d.stale.proper
 
   long_all : length all ≤ n
-  long_all = length_with L Y S good_limits d.stale.good_layout d.stale.kept v old d.stale.there d.stale.many
+  long_all = length_with L Y S proper.good_limits proper.good_layout proper.kept v old d.stale.there d.stale.many
 
-  long_front : marks_from w ≡ length (before_marks L Y S d.stale.kept all long_all)
-  long_front = sym (length_before L Y S d.stale.kept all long_all)
+  long_front : marks_from w ≡ length (before_marks L Y S proper.kept all long_all)
+  long_front = sym (length_before L Y S proper.kept all long_all)
 
   in_score : v < length S
-  in_score = rw d.stale.kept.so_many d.stale.there
+  in_score = rw proper.kept.so_many d.stale.there
 
   pub end_within : end ≤ n
-  end_within = omega (arith, voice_le S v in_score, d.stale.kept.fitting, d.within)
+  end_within = omega (arith, voice_le S v in_score, proper.kept.fitting, d.within)
 
   pub at_within : at ≤ end
   at_within = omega (arith, d.at_is, d.up_to)
 
   -- the marks, and that they say where the derived events end
   pub marks_there : drop (marks_from w) w ≡ ms
-  marks_there = ap (drop (marks_from w)) d.stale.is ∙ drop_marks L Y S d.stale.kept all long_all ms (marks_from w) long_front
+  marks_there = ap (drop (marks_from w)) d.stale.is ∙ drop_marks L Y S proper.kept all long_all ms (marks_from w) long_front
 
   pub mark_there : has (drop (marks_from w) w) at ≡ ltb at end
   mark_there = ap (λ xs. has xs at) marks_there ∙ marked_first at end (marks_asked n) at_within (omega (arith, at_within, end_within))
@@ -171,8 +171,8 @@ module _ (w : List ℕ) (at bar tick : ℕ) (st : ℕ → ℕ) (d : Deriving w a
 
     pub bar_small : bar < ticks_end
     bar_small =
-        let o = onsets_small Y.in_key Y.bar_long Voice d.from 0 0 (key Y.in_key) ticks_end d.stale.good_layout.1
-        (let s = short_voice S v d.stale.kept.short in omega arith) (fines_voice S v d.stale.kept.fines) lf in
+        let o = onsets_small Y.in_key Y.bar_long Voice d.from 0 0 (key Y.in_key) ticks_end proper.good_layout.1
+        (let s = short_voice S v proper.kept.short in omega arith) (fines_voice S v proper.kept.fines) lf in
         subst (λ i. i < ticks_end) (ap (λ z. z.bar) nexts.0) o.bar_small
 
     -- its words written
@@ -183,7 +183,7 @@ module _ (w : List ℕ) (at bar tick : ℕ) (st : ℕ → ℕ) (d : Deriving w a
         let la = length_all_onsets Y (take v S) in
         let le : at < length all = rw (length-append A (old ++ C), length-append old C) (omega (arith, d.at_is, lf, d.stale.many, la)) in
         ap (λ z. rows_set z (bars_from w) n at bar tick (sign_at st e)) d.stale.is
-        ∙ (onset_set L Y S d.stale.kept all ms (bars_from w) refl at x le long_all
+        ∙ (onset_set L Y S proper.kept all ms (bars_from w) refl at x le long_all
         ∙ ap (λ os. headed L Y S (onset_rows n os ms)) (set_among A old C d.from at (omega (arith, d.at_is, la)) x (omega (arith, lf, d.stale.many))))
 
     -- and its mark taken away
@@ -191,34 +191,34 @@ module _ (w : List ℕ) (at bar tick : ℕ) (st : ℕ → ℕ) (d : Deriving w a
     unmarked = set (drop (marks_from w) (rows_set w (bars_from w) n at bar tick (sign_at st e))) (at / 32) (get_or (drop (marks_from w) (rows_set w (bars_from w) n at bar tick (sign_at st e))) (at / 32) 0 - 2 ^ (at % 32))
 
     long_set : length (onsets_with Y S v (set old d.from x)) ≤ n
-    long_set = length_with L Y S good_limits d.stale.good_layout d.stale.kept v (set old d.from x) d.stale.there (length-set old d.from x ∙ d.stale.many)
+    long_set = length_with L Y S proper.good_limits proper.good_layout proper.kept v (set old d.from x) d.stale.there (length-set old d.from x ∙ d.stale.many)
 
     abbrev then : List ℕ
     then = take (marks_from w) (rows_set w (bars_from w) n at bar tick (sign_at st e)) ++ unmarked
 
     -- the marks are as they were until then
     pub marks_still : drop (marks_from w) (rows_set w (bars_from w) n at bar tick (sign_at st e)) ≡ ms
-    marks_still = ap (drop (marks_from w)) written ∙ drop_marks L Y S d.stale.kept (onsets_with Y S v (set old d.from x)) long_set ms (marks_from w) (sym (length_before L Y S d.stale.kept (onsets_with Y S v (set old d.from x)) long_set))
+    marks_still = ap (drop (marks_from w)) written ∙ drop_marks L Y S proper.kept (onsets_with Y S v (set old d.from x)) long_set ms (marks_from w) (sym (length_before L Y S proper.kept (onsets_with Y S v (set old d.from x)) long_set))
 
     pub then_is : headed L Y S (onset_rows n (onsets_with Y S v (set old d.from x)) (marked (suc at) end (marks_asked n))) ≡ then
     then_is =
         let K : List Onset = onsets_with Y S v (set old d.from x) in
-        let long : marks_from w ≡ length (before_marks L Y S d.stale.kept K long_set) = sym (length_before L Y S d.stale.kept K long_set) in
+        let long : marks_from w ≡ length (before_marks L Y S proper.kept K long_set) = sym (length_before L Y S proper.kept K long_set) in
         let u : unmarked ≡ marked (suc at) end (marks_asked n) =
         ap (λ xs. set xs (at / 32) (get_or xs (at / 32) 0 - 2 ^ (at % 32))) marks_still ∙ unmarked_first at end (marks_asked n) lt (omega (arith, lt, end_within)) in
-        sym (ap₂ (λ xs ys. take (marks_from w) xs ++ ys) written u ∙ set_marks L Y S d.stale.kept K long_set ms (marked (suc at) end (marks_asked n)) (marks_from w) long)
+        sym (ap₂ (λ xs ys. take (marks_from w) xs ++ ys) written u ∙ set_marks L Y S proper.kept K long_set ms (marked (suc at) end (marks_asked n)) (marks_from w) long)
 
     pub next_derived : Deriving then (suc at) (bar_behind Y.in_key Y.bar_long bar tick e) (tick_behind Y.in_key Y.bar_long tick e) (held_behind Y.in_key Y.bar_long tick st e)
     next_derived =
         subst (λ z. Deriving z (suc at) (bar_behind Y.in_key Y.bar_long bar tick e) (tick_behind Y.in_key Y.bar_long tick e) (held_behind Y.in_key Y.bar_long tick st e)) then_is
-        (deriving_headed L Y S good_limits d.stale.good_layout d.stale.kept v d.stale.there (suc d.from) d.to (suc at)
+        (deriving_headed L Y S proper.good_limits proper.good_layout proper.kept v d.stale.there (suc d.from) d.to (suc at)
         (bar_behind Y.in_key Y.bar_long bar tick e) (tick_behind Y.in_key Y.bar_long tick e) (held_behind Y.in_key Y.bar_long tick st e) (set old d.from x)
         (omega (arith, d.at_is)) (length-set old d.from x ∙ d.stale.many) taken
         (drop-set-lt d.to old d.from x (omega (arith, d.at_is, lt)) ∙ d.stale.back)
-        nexts.1 (mod-lt (tick + lasts e) d.stale.good_layout.1) (omega (arith, d.at_is, lt)) d.within)
+        nexts.1 (mod-lt (tick + lasts e) proper.good_layout.1) (omega (arith, d.at_is, lt)) d.within)
 
     pub same_anew : kept_anew then ≡ kept_anew w
-    same_anew = ap kept_anew (sym then_is) ∙ headed_anew L Y S good_limits d.stale.good_layout d.stale.kept _
+    same_anew = ap kept_anew (sym then_is) ∙ headed_anew L Y S proper.good_limits proper.good_layout proper.kept _
 
 -- ---- where it begins
 
@@ -262,7 +262,7 @@ module _ (w : List ℕ) (begin count from to : ℕ) (u : Unkept w begin count fr
       go : Begins (take count (drop (bars_from w + begin) w)) from first bar tick → (drop first R ≡ onsets kk bb bar tick (key kk) (drop first U)) × (tick < bb)
       go (inl q) = (
         ap (λ i. drop i R) q.0 ∙ sym (ap (λ i. onsets kk bb bar tick (key kk) (drop i U)) q.0 ∙ ap₂ (λ i j. onsets kk bb i j (key kk) U) q.1 q.2),
-        omega (arith, q.2, u.stale.good_layout.1),
+        omega (arith, q.2, u.stale.proper.good_layout.1),
       )
       go (inr q) =
           let f : ℕ = first - 1 in
@@ -273,7 +273,7 @@ module _ (w : List ℕ) (begin count from to : ℕ) (u : Unkept w begin count fr
           let t_is : tick ≡ (get_or R first no_onset).tick = et q.0 ∙ (o.1 ∙ ap (λ x. x.tick) (right first q.1)) in
           let differ : (get_or R f no_onset).bar ≡ (get_or R (suc f) no_onset).bar → ⊥ = λ h. q.2 (kept_bar f (omega (arith, q.1)) ∙ (h ∙ (ap (λ i. (get_or R i no_onset).bar) e ∙ sym (kept_bar first q.1)))) in
           let s = first_of_bar kk bb U f 0 0 (key kk) (omega (arith, lu, e)) differ in
-          let small = onsets_small kk bb U first 0 0 (key kk) (suc (total U)) u.stale.good_layout.1 (omega arith) (fines_voice (score_of w) u.voice_number u.stale.kept.fines) lu in (
+          let small = onsets_small kk bb U first 0 0 (key kk) (suc (total U)) u.stale.proper.good_layout.1 (omega arith) (fines_voice (score_of w) u.voice_number u.stale.proper.kept.fines) lu in (
             subst (λ i. drop i R ≡ onsets kk bb (get_or R i no_onset).bar (get_or R i no_onset).tick (key kk) (drop i U)) e s ∙ ap₂ (λ i j. onsets kk bb i j (key kk) (drop first U)) (sym b_is) (sym t_is),
             subst (λ i. i < bb) (sym t_is) small.tick_small,
           )
@@ -285,20 +285,19 @@ module _ (w : List ℕ) (begin count from to : ℕ) (u : Unkept w begin count fr
       let Y : Layout = layout_of w in
       let S : Score = score_of w in
       let n : ℕ = limit_in w in
-      let g : GoodLimits L = (u.stale.some_voices, u.stale.few_voices, u.stale.few_events) in
       let old : List Onset = u.stale.old in
       let v : ℕ = u.voice_number in
       let all : List Onset = onsets_with Y S v old in
-      let lo = length_with L Y S g u.stale.good_layout u.stale.kept v old u.stale.there u.stale.many in
-      let long : marks_from w ≡ length (before_marks L Y S u.stale.kept all lo) = sym (length_before L Y S u.stale.kept all lo) in
+      let lo = length_with L Y S u.stale.proper.good_limits u.stale.proper.good_layout u.stale.proper.kept v old u.stale.there u.stale.many in
+      let long : marks_from w ≡ length (before_marks L Y S u.stale.proper.kept all lo) = sym (length_before L Y S u.stale.proper.kept all lo) in
       let new : List ℕ = marked (begin + first) (begin + to) (marks_asked n) in
       let e1 : headed L Y S (onset_rows n all new) ≡ take (marks_from w) w ++ new =
-      sym (ap (λ x. take (marks_from w) x ++ new) u.stale.is ∙ set_marks L Y S u.stale.kept all lo (no_marks n) new (marks_from w) long) in
+      sym (ap (λ x. take (marks_from w) x ++ new) u.stale.is ∙ set_marks L Y S u.stale.proper.kept all lo (no_marks n) new (marks_from w) long) in
       let front : take first old ≡ take first R = sym (take-take first from old le) ∙ (ap (take first) u.stale.front ∙ take-take first from R le) in
       let d : Deriving (headed L Y S (onset_rows n all (marked (begin + first) (all_events (take v S) + to) (marks_asked n)))) (begin + first) bar tick (key kk) =
-      deriving_headed L Y S g u.stale.good_layout u.stale.kept v u.stale.there first to (begin + first) bar tick (key kk) old
+      deriving_headed L Y S u.stale.proper.good_limits u.stale.proper.good_layout u.stale.proper.kept v u.stale.there first to (begin + first) bar tick (key kk) old
       (omega (arith, u.lies.begins)) u.stale.many front u.stale.back from_there.0 from_there.1 (omega arith) fits in (
         subst (λ x. Deriving x (begin + first) bar tick (key kk)) e1
             (subst (λ i. Deriving (headed L Y S (onset_rows n all (marked (begin + first) (i + to) (marks_asked n)))) (begin + first) bar tick (key kk)) (sym u.lies.begins) d),
-        ap kept_anew (sym e1) ∙ headed_anew L Y S g u.stale.good_layout u.stale.kept _,
+        ap kept_anew (sym e1) ∙ headed_anew L Y S u.stale.proper.good_limits u.stale.proper.good_layout u.stale.proper.kept _,
       )

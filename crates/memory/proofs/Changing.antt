@@ -65,12 +65,12 @@ module _ (l : Limits) (y : Layout) (s : Score) (gl : GoodLimits l) (gy : GoodLay
         front = subst (λ t. take from old ≡ take from (onsets_of y.in_key y.bar_long (voice t v))) b front;
         back = subst (λ t. drop to old ≡ drop to (onsets_of y.in_key y.bar_long (voice t v))) b back;
         there = lv;
-        kept = subst (KeptIn l.voices l.events) b k;
-        size = length_headed l y s k (onsets_with y s v old) ms (length_with v old lv many) lm;
-        some_voices = gl.0;
-        few_voices = gl.1;
-        few_events = gl.2;
-        good_layout = gy;
+        proper = record {
+          good_limits = gl;
+          good_layout = gy;
+          kept = subst (KeptIn l.voices l.events) b k;
+          size = length_headed l y s k (onsets_with y s v old) ms (length_with v old lv many) lm;
+        };
       }
 
 -- ---- by the calls
@@ -81,7 +81,7 @@ module _ (w : List ℕ) (h : Holds w) (c : Call) (v : ℕ) (lv : v < voices_in w
   Y = layout_of w
 
   in_score : v < length (score_of w)
-  in_score = rw h.kept.so_many lv
+  in_score = rw h.proper.kept.so_many lv
 
   voice_is : voice (changed (score_of w) c) v ≡ V
   voice_is = ap (λ t. voice t v) ec ∙ get_or-set_same (score_of w) v V [] in_score
@@ -99,12 +99,11 @@ module _ (w : List ℕ) (h : Holds w) (c : Call) (v : ℕ) (lv : v < voices_in w
   between x from to begin count old os ex eo many front back eb en =
       let S : Score = changed (score_of w) c in
       let n : ℕ = limit_in w in
-      let g : GoodLimits (limits_of w) = (h.some_voices, h.few_voices, h.few_events) in
       let R : List ℕ = onset_rows n (onsets_with Y S v old) (no_marks n) in
       let same : os ≡ onsets_with Y S v old = eo ∙ ap₂ (λ a b. all_onsets Y a ++ (old ++ all_onsets Y b)) (sym before_is) (sym behind_is) in
       let e : headed (limits_of w) Y S R ≡ x = sym (ex ∙ ap (λ o. headed (limits_of w) Y S (onset_rows n o (no_marks n))) same) in
-      let back_is = headed_back (limits_of w) Y S g h.good_layout d.kept R in
-      let stays = stale_headed (limits_of w) Y S g h.good_layout d.kept v from to old (no_marks n) lv (many ∙ sym (ap length voice_is)) (length-replicate {A = ℕ} (marks_asked n) 0)
+      let back_is = headed_back (limits_of w) Y S h.proper.good_limits h.proper.good_layout d.kept R in
+      let stays = stale_headed (limits_of w) Y S h.proper.good_limits h.proper.good_layout d.kept v from to old (no_marks n) lv (many ∙ sym (ap length voice_is)) (length-replicate {A = ℕ} (marks_asked n) 0)
       (front ∙ ap (λ u. take from (onsets_of Y.in_key Y.bar_long u)) (sym voice_is)) (back ∙ ap (λ u. drop to (onsets_of Y.in_key Y.bar_long u)) (sym voice_is)) in
       let where_is : Lies (headed (limits_of w) Y S R) v begin count = record {
         begins = eb ∙ (ap all_events (sym before_is) ∙ ap (λ t. all_events (take v t)) (sym back_is));
@@ -112,7 +111,7 @@ module _ (w : List ℕ) (h : Holds w) (c : Call) (v : ℕ) (lv : v < voices_in w
       } in
       subst (λ z. Between w c z begin count from to) e (record {
         unkept = record { voice_number = v; stale = stays; lies = where_is };
-        anew = headed_anew (limits_of w) Y S g h.good_layout d.kept R ∙ sym d.left;
+        anew = headed_anew (limits_of w) Y S h.proper.good_limits h.proper.good_layout d.kept R ∙ sym d.left;
       })
 
 -- v is a voice of the score, i an index in it, j the place of the event in each region, and t how long the voice is then
@@ -136,7 +135,7 @@ module _ (w : List ℕ) (h : Holds w) (v i j t begin count : ℕ) (lv : v < voic
   C = all_onsets (layout_of w) (drop (suc v) (score_of w))
 
   split : all_onsets (layout_of w) S ≡ A ++ (onsets_of K B V ++ C)
-  split = spread_split (onsets_of K B) S v (rw h.kept.so_many lv)
+  split = spread_split (onsets_of K B) S v (rw h.proper.kept.so_many lv)
 
   j_is : j ≡ length A + i
   j_is = omega (arith, length_all_onsets (layout_of w) (take v S), sp.begins)
@@ -165,7 +164,7 @@ module _ (w : List ℕ) (h : Holds w) (v i j t begin count : ℕ) (lv : v < voic
       let lm = length-insert (onsets_of K B V) i no_onset (omega (arith, sp.counts)) in
       let lx = length_onsets K B 0 0 (key K) (insert V i e) in
       between w h (put v i e) v lv (insert V i e) d refl _ i (count + 1) begin (count + 1) (insert (onsets_of K B V) i no_onset) (insert (all_onsets (layout_of w) S) j no_onset)
-      (put_left w h v i j t lv place_is e u (omega (arith, sp.counts)) (omega (arith, voice_le S v (rw h.kept.so_many lv), sp.begins, sp.counts)) room eu et d.kept)
+      (put_left w h v i j t lv place_is e u (omega (arith, sp.counts)) (omega (arith, voice_le S v (rw h.proper.kept.so_many lv), sp.begins, sp.counts)) room eu et d.kept)
       (ap (λ os. insert os j no_onset) split ∙ inserted_among A (onsets_of K B V) C i j j_is no_onset (omega (arith, sp.counts)))
       (omega arith)
       (take_inserted (onsets_of K B V) i no_onset (omega (arith, sp.counts)) ∙ sym (front_is (insert V i e) (take_inserted V i e (omega (arith, sp.counts)))))
@@ -182,7 +181,7 @@ module _ (w : List ℕ) (h : Holds w) (v i j t begin count : ℕ) (lv : v < voic
       let lm = length-remove (onsets_of K B V) i (omega (arith, sp.counts)) in
       let lx = length_onsets K B 0 0 (key K) (remove V i) in
       between w h (cut v i) v lv (remove V i) d refl _ i (count - 1) begin (count - 1) (remove (onsets_of K B V) i) (remove (all_onsets (layout_of w) S) j)
-      (cut_left w h v i j t lv place_is old u (omega (arith, sp.counts)) (omega (arith, voice_le S v (rw h.kept.so_many lv), sp.begins, sp.counts)) eu et d.kept)
+      (cut_left w h v i j t lv place_is old u (omega (arith, sp.counts)) (omega (arith, voice_le S v (rw h.proper.kept.so_many lv), sp.begins, sp.counts)) eu et d.kept)
       (ap (λ os. remove os j) split ∙ removed_among A (onsets_of K B V) C i j j_is no_onset (omega (arith, sp.counts)))
       (omega arith)
       (take_removed (onsets_of K B V) i (omega (arith, sp.counts)) ∙ sym (front_is (remove V i) (take_removed V i (omega (arith, sp.counts)))))

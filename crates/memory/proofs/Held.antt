@@ -23,12 +23,7 @@ holds_stored l y s gl gy k =
     let back = score_back l y s k in
     record {
       is = ap (stored l y) (sym back);
-      kept = subst (KeptIn l.voices l.events) (sym back) k;
-      size = length_stored l y s k;
-      some_voices = gl.0;
-      few_voices = gl.1;
-      few_events = gl.2;
-      good_layout = gy;
+      proper = record { good_limits = gl; good_layout = gy; kept = subst (KeptIn l.voices l.events) (sym back) k; size = length_stored l y s k };
     }
 
 -- ---- sums of counts
@@ -105,19 +100,19 @@ module _ (w : List ℕ) (h : Holds w) where
   from_body j = sym (drop-drop j 4 w) ∙ ap (λ x. drop j x) body
 
   fitting : length (flat (score_of w)) ≤ limit_in w
-  fitting = rw (length_flat (score_of w)) h.kept.fitting
+  fitting = rw (length_flat (score_of w)) h.proper.kept.fitting
 
   long_counts : length (counts (score_of w)) ≡ voices_in w
-  long_counts = length_counts (score_of w) h.kept.so_many fitting
+  long_counts = length_counts (score_of w) h.proper.kept.so_many fitting
 
   long_ticks : length (ticks (score_of w)) ≡ voices_in w
-  long_ticks = length_ticks (score_of w) h.kept.so_many fitting
+  long_ticks = length_ticks (score_of w) h.proper.kept.so_many fitting
 
   long_region : (f : Event → ℕ) → length (padded (limit_in w) (map f (flat (score_of w)))) ≡ limit_in w
   long_region f = length_region f (limit_in w) (flat (score_of w)) fitting
 
   long_onsets : (f : Onset → ℕ) → length (padded (limit_in w) (map f (all_onsets (layout_of w) (score_of w)))) ≡ limit_in w
-  long_onsets f = length_region f (limit_in w) _ (rw (length_all_onsets (layout_of w) (score_of w)) h.kept.fitting)
+  long_onsets f = length_region f (limit_in w) _ (rw (length_all_onsets (layout_of w) (score_of w)) h.proper.kept.fitting)
 
   -- of a voice: how many events there are before it and in it, and how long it is
 
@@ -130,21 +125,21 @@ module _ (w : List ℕ) (h : Holds w) where
       ap (λ x. sum x) front ∙ (sum-map length (take v (score_of w)) ∙ events_sum (take v (score_of w)))
 
   pub few_before : (v : ℕ) → all_events (take v (score_of w)) ≤ limit_in w
-  few_before v = omega (arith, events_take_le (score_of w) v, h.kept.fitting)
+  few_before v = omega (arith, events_take_le (score_of w) v, h.proper.kept.fitting)
 
   pub all_before : all_events (take (voices_in w) (score_of w)) ≡ all_events (score_of w)
-  all_before = ap all_events (take_all (voices_in w) (score_of w) (omega (arith, h.kept.so_many)))
+  all_before = ap all_events (take_all (voices_in w) (score_of w) (omega (arith, h.proper.kept.so_many)))
 
   pub count_at : (v : ℕ) → v < voices_in w → get_or w (4 + v) 0 ≡ length (voice (score_of w) v)
   count_at v lt =
       let c : v < length (counts (score_of w)) = rw long_counts lt in
-      let c2 : v < length (score_of w) = rw h.kept.so_many lt in
+      let c2 : v < length (score_of w) = rw h.proper.kept.so_many lt in
       sym (get_or-drop 4 w v 0) ∙ (ap (λ x. get_or x v 0) body ∙ (get_or_append_left (counts (score_of w)) _ 0 v c ∙ get_or-map length (score_of w) v [] 0 c2))
 
   pub ticks_at : (v : ℕ) → v < voices_in w → get_or w (4 + voices_in w + v) 0 ≡ total (voice (score_of w) v)
   ticks_at v lt =
       let c : v < length (ticks (score_of w)) = rw long_ticks lt in
-      let c2 : v < length (score_of w) = rw h.kept.so_many lt in
+      let c2 : v < length (score_of w) = rw h.proper.kept.so_many lt in
       let d : drop (4 + voices_in w) w ≡ ticks (score_of w) ++ _ = from_body (voices_in w) ∙ drop_at (counts (score_of w)) _ (voices_in w) long_counts in
       sym (get_or-drop (4 + voices_in w) w v 0) ∙ (ap (λ x. get_or x v 0) d ∙ (get_or_append_left (ticks (score_of w)) _ 0 v c ∙ get_or-map total (score_of w) v [] 0 c2))
 
@@ -206,14 +201,14 @@ module _ (w : List ℕ) (h : Holds w) where
   module _ {X : Type 0} (g : List Event → List X) (each : (v : List Event) → length (g v) ≡ length v) (f : X → ℕ) (from v : ℕ) (r : Region (map f (spread g (score_of w))) from) (lv : v < voices_in w) where
     row_of : take (length (voice (score_of w) v)) (drop (from + all_events (take v (score_of w))) w) ≡ map f (g (voice (score_of w) v))
     row_of =
-        let c2 : v < length (score_of w) = rw h.kept.so_many lv in
+        let c2 : v < length (score_of w) = rw h.proper.kept.so_many lv in
         ap (λ x. take (length (voice (score_of w) v)) x)
         (sym (drop-drop (all_events (take v (score_of w))) from w) ∙ ap (λ x. drop (all_events (take v (score_of w))) x) r.1)
         ∙ region_part g each f (limit_in w) (score_of w) v r.0 c2
 
     word_of : (i : ℕ) (d : X) → i < length (voice (score_of w) v) → get_or w (from + (all_events (take v (score_of w)) + i)) 0 ≡ f (get_or (g (voice (score_of w) v)) i d)
     word_of i d li =
-        let c2 : v < length (score_of w) = rw h.kept.so_many lv in
+        let c2 : v < length (score_of w) = rw h.proper.kept.so_many lv in
         let within : all_events (take v (score_of w)) + i < length (spread g (score_of w)) = omega (arith, length_spread g each (score_of w), voice_le (score_of w) v c2) in
         sym (get_or-drop from w _ 0)
         ∙ (ap (λ x. get_or x (all_events (take v (score_of w)) + i) 0) r.1
@@ -246,7 +241,7 @@ module _ (w : List ℕ) (h : Holds w) where
       (get_or w (places_from w + i) 0 ≤ places) × (get_or w (alterations_from w + i) 0 < alterations) × (get_or w (lengths_from w + i) 0 < length_end)
   words_small i li =
       let e : Event = get_or (flat (score_of w)) i (silence 0) in
-      let f = fine_fields e (fine_at (flat (score_of w)) i (silence 0) (rw (length_flat (score_of w)) li) (fine_flat (score_of w) h.kept.fines)) in
+      let f = fine_fields e (fine_at (flat (score_of w)) i (silence 0) (rw (length_flat (score_of w)) li) (fine_flat (score_of w) h.proper.kept.fines)) in
       let p = flat_word_at stands (places_from w) i (silence 0) places_region li in
       let a = flat_word_at alters (alterations_from w) i (silence 0) alterations_region li in
       let t = flat_word_at lasts (lengths_from w) i (silence 0) lengths_region li in
@@ -255,12 +250,12 @@ module _ (w : List ℕ) (h : Holds w) where
   -- a voice that is there
 
   pub voice_fine : (v : ℕ) → all_fine (voice (score_of w) v) ≡ true
-  voice_fine v = fines_voice (score_of w) v h.kept.fines
+  voice_fine v = fines_voice (score_of w) v h.proper.kept.fines
 
   pub within_limit : (v : ℕ) → v < voices_in w → all_events (take v (score_of w)) + length (voice (score_of w) v) ≤ limit_in w
   within_limit v lt =
-      let c2 : v < length (score_of w) = rw h.kept.so_many lt in
-      omega (arith, voice_le (score_of w) v c2, h.kept.fitting)
+      let c2 : v < length (score_of w) = rw h.proper.kept.so_many lt in
+      omega (arith, voice_le (score_of w) v c2, h.proper.kept.fitting)
 
   pub events_there : (v begin count : ℕ) → v < voices_in w → begin ≡ all_events (take v (score_of w)) → count ≡ length (voice (score_of w) v) → events_at w begin count ≡ voice (score_of w) v
   events_there v begin count lt eb ec =
@@ -293,12 +288,12 @@ module _ (w : List ℕ) (h : Holds w) where
 
   pub place_within : (v i : ℕ) → v < voices_in w → i < length (voice (score_of w) v) → all_events (take v (score_of w)) + i < all_events (score_of w)
   place_within v i lv li =
-      let c2 : v < length (score_of w) = rw h.kept.so_many lv in
+      let c2 : v < length (score_of w) = rw h.proper.kept.so_many lv in
       omega (arith, voice_le (score_of w) v c2)
 
   pub gap_within : (v i : ℕ) → v < voices_in w → i ≤ length (voice (score_of w) v) → all_events (take v (score_of w)) + i ≤ all_events (score_of w)
   gap_within v i lv li =
-      let c2 : v < length (score_of w) = rw h.kept.so_many lv in
+      let c2 : v < length (score_of w) = rw h.proper.kept.so_many lv in
       omega (arith, voice_le (score_of w) v c2)
 
   -- and one of its events

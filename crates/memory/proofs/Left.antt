@@ -39,7 +39,7 @@ module _ (w : List ℕ) (h : Holds w) (v i j t : ℕ) (lv : v < voices_in w) (ej
       let lo : length os ≡ u = length_all_onsets (layout_of w) s ∙ sym eu in
       ap (λ x. rows_in (set (set (rows_in x (places_from w) n u j (stands e) (alters e) (lasts e)) (4 + v) (get_or w (4 + v) 0 + 1)) (4 + voices_in w + v) t) (bars_from w) n u j 0 0 0) as_held
       ∙ (ap (λ x. rows_in x (bars_from w) n u j 0 0 0)
-      (put_stored (limits_of w) (layout_of w) s h.kept v i (places_from w) j lv refl ej (onset_rows n os (no_marks n)) e u (get_or w (4 + v) 0 + 1) t li room eu c et)
+      (put_stored (limits_of w) (layout_of w) s h.proper.kept v i (places_from w) j lv refl ej (onset_rows n os (no_marks n)) e u (get_or w (4 + v) 0 + 1) t li room eu c et)
       ∙ (ap (λ z. rows_in (with_onsets (changed s (put v i e)) os) (bars_from w) n z j 0 0 0) (sym lo)
       ∙ onset_in (limits_of w) (layout_of w) (changed s (put v i e)) k os (no_marks n) (bars_from w) refl j (omega arith) (omega arith)))
 
@@ -53,9 +53,9 @@ module _ (w : List ℕ) (h : Holds w) (v i j t : ℕ) (lv : v < voices_in w) (ej
       let lo : length os ≡ u = length_all_onsets (layout_of w) s ∙ sym eu in
       ap (λ x. rows_out (set (set (rows_out x (places_from w) n u j) (4 + v) (get_or w (4 + v) 0 - 1)) (4 + voices_in w + v) t) (bars_from w) n u j) as_held
       ∙ (ap (λ x. rows_out x (bars_from w) n u j)
-      (cut_stored (limits_of w) (layout_of w) s h.kept v i (places_from w) j lv refl ej (onset_rows n os (no_marks n)) old u (get_or w (4 + v) 0 - 1) t li eu c et)
+      (cut_stored (limits_of w) (layout_of w) s h.proper.kept v i (places_from w) j lv refl ej (onset_rows n os (no_marks n)) old u (get_or w (4 + v) 0 - 1) t li eu c et)
       ∙ (ap (λ z. rows_out (with_onsets (changed s (cut v i)) os) (bars_from w) n z j) (sym lo)
-      ∙ onset_out (limits_of w) (layout_of w) (changed s (cut v i)) k os (no_marks n) (bars_from w) refl j (omega arith) (omega (arith, h.kept.fitting))))
+      ∙ onset_out (limits_of w) (layout_of w) (changed s (cut v i)) k os (no_marks n) (bars_from w) refl j (omega arith) (omega (arith, h.proper.kept.fitting))))
 
   pub change_left : (e old : Event) → i < length (voice s v) → t ≡ total (voice s v) - lasts (get_or (voice s v) i old) + lasts e →
       with_other w v j t (stands e) (alters e) (lasts e) ≡ with_onsets (changed s (change v i e)) os
@@ -63,4 +63,4 @@ module _ (w : List ℕ) (h : Holds w) (v i j t : ℕ) (lv : v < voices_in w) (ej
   change_left e old li et =
       let n : ℕ = limit_in w in
       ap (λ x. set (rows_set x (places_from w) n j (stands e) (alters e) (lasts e)) (4 + voices_in w + v) t) as_held
-      ∙ change_stored (limits_of w) (layout_of w) s h.kept v i (places_from w) j lv refl ej (onset_rows n os (no_marks n)) e old t li et
+      ∙ change_stored (limits_of w) (layout_of w) s h.proper.kept v i (places_from w) j lv refl ej (onset_rows n os (no_marks n)) e old t li et

@@ -3,7 +3,6 @@ use Rattle.std.proofs.Common.{◌≡◌, ℕ, suc, ◌+◌, ◌-◌, ◌<◌, �
 use Rattle.std.proofs.lemmas.List.{length-append, drop_at, drop-drop, get_or-drop, get_or_append_left, get_or-append_right}
 use Rattle.score.specs.Music.{Event, silence, places, alterations, length_end}
 use Rattle.score.specs.Calls.{Score, voice, all_events}
-use Rattle.score.specs.Promise.{GoodLimits}
 use Rattle.laws.specs.Rows.{event_of}
 use Rattle.laws.specs.Onsets.{Onset}
 use Rattle.laws.proofs.Reaching.{no_onset}
@@ -23,22 +22,19 @@ module _ (w : List ℕ) (v from to : ℕ) (ms : List ℕ) (z : Stale w v from to
   abbrev V : List Event
   V = voice (score_of w) v
 
-  good_limits : GoodLimits (limits_of w)
-  good_limits = (z.some_voices, z.few_voices, z.few_events)
-
   in_score : v < length S
-  in_score = rw z.kept.so_many z.there
+  in_score = rw z.proper.kept.so_many z.there
 
   pub anew_holds : Holds (kept_anew w)
-  anew_holds = holds_stored (limits_of w) (layout_of w) S good_limits z.good_layout z.kept
+  anew_holds = holds_stored (limits_of w) (layout_of w) S z.proper.good_limits z.proper.good_layout z.proper.kept
 
   anew_score : score_of (kept_anew w) ≡ S
-  anew_score = score_back (limits_of w) (layout_of w) S z.kept
+  anew_score = score_back (limits_of w) (layout_of w) S z.proper.kept
 
   -- ---- the events lie as in words that hold the score
 
   front_long : length (headed (limits_of w) (layout_of w) S []) ≡ bars_from w
-  front_long = length_front (limits_of w) (layout_of w) S z.kept
+  front_long = length_front (limits_of w) (layout_of w) S z.proper.kept
 
   alike : (i : ℕ) → i < bars_from w → get_or (kept_anew w) i 0 ≡ get_or w i 0
   unfolding stored
@@ -50,7 +46,7 @@ module _ (w : List ℕ) (v from to : ℕ) (ms : List ℕ) (z : Stale w v from to
 
   module _ (i at : ℕ) (li : i < length V) (ea : at ≡ all_events (take v S) + i) where
     at_small : at < limit_in w
-    at_small = omega (arith, voice_le S v in_score, z.kept.fitting)
+    at_small = omega (arith, voice_le S v in_score, z.proper.kept.fitting)
 
     pub event_midway : event_of (get_or w (places_from w + at) 0) (get_or w (alterations_from w + at) 0) (get_or w (lengths_from w + at) 0) ≡ get_or V i (silence 0)
     unfolding stored
@@ -84,7 +80,7 @@ module _ (w : List ℕ) (v from to : ℕ) (ms : List ℕ) (z : Stale w v from to
   A = all_onsets (layout_of w) (take v (score_of w))
 
   long_all : length all ≤ limit_in w
-  long_all = length_with (limits_of w) (layout_of w) S good_limits z.good_layout z.kept v z.old z.there z.many
+  long_all = length_with (limits_of w) (layout_of w) S z.proper.good_limits z.proper.good_layout z.proper.kept v z.old z.there z.many
 
   bars_there : drop (bars_from w) w ≡ onset_rows (limit_in w) all ms
   bars_there =

@@ -29,7 +29,7 @@ pub record Done (w : List ℕ) (c : Call) : Type 0 where
 module _ (w : List ℕ) (h : Holds w) (c : Call) where
   pub holds_next : Holds (next_words w c)
   unfolding words_by
-  holds_next = holds_stored (limits_of w) (layout_of w) _ (h.some_voices, h.few_voices, h.few_events) h.good_layout (kept_after (limits_of w) (layout_of w) (score_of w) c h.kept)
+  holds_next = holds_stored (limits_of w) (layout_of w) _ h.proper.good_limits h.proper.good_layout (kept_after (limits_of w) (layout_of w) (score_of w) c h.proper.kept)
 
   pub away : (n : ℕ) → turned_at w c ≡ n → 0 < n → Away w c n
   unfolding words_by answer_by turned_in
@@ -47,7 +47,7 @@ module _ (w : List ℕ) (h : Holds w) (c : Call) where
       record {
         said = pick_true _ _ _ on;
         left = ap (stored (limits_of w) (layout_of w)) (pick_true _ _ _ on);
-        kept = kept_changed (limits_of w) (layout_of w) (score_of w) c h.kept e;
+        kept = kept_changed (limits_of w) (layout_of w) (score_of w) c h.proper.kept e;
         holds = holds_next;
       }
 
@@ -114,7 +114,7 @@ module _ (w : List ℕ) (h : Holds w) (v i : ℕ) where
 
   -- whether the voice is there
   voices_there : length (score_of w) ≡ voices_in w
-  voices_there = h.kept.so_many
+  voices_there = h.proper.kept.so_many
 
   in_score : ltb v (voices_in w) ≡ true → v < length (score_of w)
   in_score b = rw voices_there (ltb-true v (voices_in w) b)
@@ -128,7 +128,7 @@ module _ (w : List ℕ) (h : Holds w) (v i : ℕ) where
         let lv = in_score b in
         let li = leb-true i (length V) x in
         ap (λ n. leb n (limit_in w) && none_too_long (changed S (put v i e))) (events_put S v i e lv li)
-        ∙ ap (λ t. ltb (all_events S) (limit_in w) && t) (short_set S v _ lv h.kept.short ∙ ap (λ n. ltb n ticks_end) (total_put V i e))
+        ∙ ap (λ t. ltb (all_events S) (limit_in w) && t) (short_set S v _ lv h.proper.kept.short ∙ ap (λ n. ltb n ticks_end) (total_put V i e))
 
     turned_put : turned_by S (put v i e) ≡ pick (ltb v (voices_in w)) (pick (leb i (length V)) 0 5) 4
     unfolding turned_by
@@ -169,10 +169,10 @@ module _ (w : List ℕ) (h : Holds w) (v i : ℕ) where
       let lv = in_score b in
       let li = ltb-true i (length V) x in
       let n = events_cut S v i (silence 0) lv li in
-      let fit = h.kept.fitting in
+      let fit = h.proper.kept.fitting in
       let less = total_less S v i (silence 0) lv li in
-      let short = short_voice S v h.kept.short in
-      and_from _ _ (le-leb _ (limit_in w) (omega arith)) (short_set S v _ lv h.kept.short ∙ lt-ltb (total (remove V i)) ticks_end (omega arith))
+      let short = short_voice S v h.proper.kept.short in
+      and_from _ _ (le-leb _ (limit_in w) (omega arith)) (short_set S v _ lv h.proper.kept.short ∙ lt-ltb (total (remove V i)) ticks_end (omega arith))
 
   turned_cut : turned_by S (cut v i) ≡ pick (ltb v (voices_in w)) (pick (ltb i (length V)) 0 5) 4
   unfolding turned_by
@@ -202,9 +202,9 @@ module _ (w : List ℕ) (h : Holds w) (v i : ℕ) where
         let lv = in_score b in
         let li = ltb-true i (length V) x in
         let n = events_change S v i e old lv li in
-        let fit = h.kept.fitting in
+        let fit = h.proper.kept.fitting in
         and_known (leb (all_events (changed S (change v i e))) (limit_in w)) _ (le-leb _ (limit_in w) (omega arith))
-        ∙ (short_set S v _ lv h.kept.short ∙ ap (λ m. ltb m ticks_end) (total_else S v i e old lv li))
+        ∙ (short_set S v _ lv h.proper.kept.short ∙ ap (λ m. ltb m ticks_end) (total_else S v i e old lv li))
 
     turned_change : turned_by S (change v i e) ≡ pick (ltb v (voices_in w)) (pick (ltb i (length V)) 0 5) 4
     unfolding turned_by
@@ -236,13 +236,13 @@ module _ (w : List ℕ) (h : Holds w) (v i : ℕ) where
 
 module _ (w : List ℕ) (h : Holds w) where
   fits_now : fits (limits_of w) (score_of w) ≡ true
-  fits_now = and_from _ _ (le-leb (all_events (score_of w)) (limit_in w) h.kept.fitting) h.kept.short
+  fits_now = and_from _ _ (le-leb (all_events (score_of w)) (limit_in w) h.proper.kept.fitting) h.proper.kept.short
 
   -- how long
   module _ (v : ℕ) where
     turned_long : turned_by (score_of w) (how_long v) ≡ pick (ltb v (voices_in w)) (pick true 0 5) 4
     unfolding turned_by
-    turned_long = ap (λ n. pick {A = ℕ} (ltb v n) 0 4) h.kept.so_many
+    turned_long = ap (λ n. pick {A = ℕ} (ltb v n) 0 4) h.proper.kept.so_many
 
     good_long : good_call (limits_of w) (layout_of w) (how_long v) ≡ true
     unfolding good_fields
@@ -262,7 +262,7 @@ module _ (w : List ℕ) (h : Holds w) where
   module _ (v b n : ℕ) where
     turned_show : turned_by (score_of w) (show v b n) ≡ pick (ltb v (voices_in w)) (pick true 0 5) 4
     unfolding turned_by
-    turned_show = ap (λ m. pick {A = ℕ} (ltb v m) 0 4) h.kept.so_many
+    turned_show = ap (λ m. pick {A = ℕ} (ltb v m) 0 4) h.proper.kept.so_many
 
     good_show : good_call (limits_of w) (layout_of w) (show v b n) ≡ leb n most_bars
     unfolding good_fields

@@ -2,22 +2,24 @@
 use Rattle.std.specs.Prelude.{◌≡◌, ℕ, suc, ◌+◌, ◌<◌, ◌≤◌, Bool, true, List, ◌++◌, length, take, drop, replicate}
 use Rattle.score.specs.Music.{Event}
 use Rattle.score.specs.Calls.{Layout, Score, Call, Answer, voice, all_events, empty_voices, turned, after, answer}
-use Rattle.score.specs.Promise.{GoodLayout, Engraver, whole}
+use Rattle.score.specs.Promise.{GoodLayout, GoodLimits, Engraver, whole}
 use Rattle.wire.specs.Bytes.{answer_bytes, written}
 use Rattle.laws.specs.Rows.{voice_of}
 use Rattle.laws.specs.Onsets.{Onset, onsets, onsets_of, bars_of, ticks_of, signs_of}
 use Rattle.marks.specs.Marked.{marked}
 use Rattle.memory.specs.Store.{marks_asked, words_asked, bytes_asked, all_onsets, onset_rows, no_marks, headed, stored, voices_in, limit_in, places_from, alterations_from, lengths_from, bars_from, beats_from, signs_from, limits_by, limits_of, layout_of, score_of, Kept}
 
--- they are what some score is stored as, and just as many as are asked for
-pub record Holds (w : List ℕ) : Type 0 where
-  pub is : w ≡ stored (limits_of w) (layout_of w) (score_of w)
+-- what the words say of limits and layout is good, the score keeps to it, and the words are just as many as are asked for
+pub record Proper (w : List ℕ) : Type 0 where
+  pub good_limits : GoodLimits (limits_of w)
+  pub good_layout : GoodLayout (layout_of w)
   pub kept : Kept (limits_of w) (score_of w)
   pub size : length w ≡ words_asked (voices_in w) (limit_in w)
-  pub some_voices : 0 < voices_in w
-  pub few_voices : voices_in w ≤ 64
-  pub few_events : limit_in w ≤ 65536
-  pub good_layout : GoodLayout (layout_of w)
+
+-- they are what some score is stored as
+pub record Holds (w : List ℕ) : Type 0 where
+  pub is : w ≡ stored (limits_of w) (layout_of w) (score_of w)
+  pub proper : Proper w
 
 -- at a stage: the number by which a call is turned away or 0, what it is answered, and the words that it leaves
 unfoldable pub turned_in : (ℕ → Bool) → Bool → List ℕ → Call → ℕ
@@ -59,12 +61,7 @@ pub record Stale (w : List ℕ) (v from to : ℕ) (ms : List ℕ) : Type 0 where
   pub front : take from old ≡ take from (onsets_in w v)
   pub back : drop to old ≡ drop to (onsets_in w v)
   pub there : v < voices_in w
-  pub kept : Kept (limits_of w) (score_of w)
-  pub size : length w ≡ words_asked (voices_in w) (limit_in w)
-  pub some_voices : 0 < voices_in w
-  pub few_voices : voices_in w ≤ 64
-  pub few_events : limit_in w ≤ 65536
-  pub good_layout : GoodLayout (layout_of w)
+  pub proper : Proper w
 
 -- where the events of a voice lie in each region, as `Spans` says it of words that hold a score
 pub record Lies (w : List ℕ) (v begin count : ℕ) : Type 0 where

@@ -21,7 +21,7 @@ use Rattle.records.specs.declared.Record.{Record}
 module _ (w : List ℕ) (h : Holds w) (c : Call) where
   pub score_next : score_of (next_words w c) ≡ after (limits_of w) (layout_of w) (score_of w) c
   unfolding words_by
-  score_next = score_back (limits_of w) (layout_of w) _ (kept_after (limits_of w) (layout_of w) (score_of w) c h.kept)
+  score_next = score_back (limits_of w) (layout_of w) _ (kept_after (limits_of w) (layout_of w) (score_of w) c h.proper.kept)
 
   pub limits_next : limits_of (next_words w c) ≡ limits_of w
   unfolding words_by stored

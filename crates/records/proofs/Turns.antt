@@ -38,7 +38,7 @@ over w ns w' n next h e = record {
 module _ (w ns w' : List ℕ) (n : ℕ) (h : Holds w') (g : Going w ns w' n) where
   -- not more were put than there may be
   pub few : n ≤ 65536
-  few = omega (arith, g.events, h.kept.fitting, h.few_events)
+  few = omega (arith, g.events, h.proper.kept.fitting, h.proper.good_limits.2)
 
   -- no record is left
   pub ends : n ≡ length (records_of ns) → Holds w → Over w ns w' (length ns / 4) (end_of ns)

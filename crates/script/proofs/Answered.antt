@@ -52,7 +52,7 @@ line_more w b w' out spelt out' line whole ls ms h el es eo ew inv =
     let W : List ℕ = score_words w in
     let r : Result Call ℕ = call_line line in
     let s' : Score = after_line (limits_of W) (layout_of W) (score_of W) r in
-    ap (λ (as' : List Answer). out' ++ answer_lines as') (answers_stored w' (voices_in W) (limit_in W) (layout_of W) s' ms (kept_line (limits_of W) (layout_of W) (score_of W) r h.holds.kept) ew)
+    ap (λ (as' : List Answer). out' ++ answer_lines as') (answers_stored w' (voices_in W) (limit_in W) (layout_of W) s' ms (kept_line (limits_of W) (layout_of W) (score_of W) r h.holds.proper.kept) ew)
     ∙ ap (λ (o : List ℕ). o ++ answer_lines (line_answers (limits_of W) (layout_of W) s' ms))
     (eo ∙ ap (λ (o : List ℕ). o ++ (line_end ∷ [])) es ∙ append_assoc out (spelled_answer (line_answer_in w r)) (line_end ∷ []))
     ∙ append_assoc out (answer_line (line_answer_in w r)) (answer_lines (line_answers (limits_of W) (layout_of W) s' ms))

@@ -8,14 +8,14 @@ use Rattle.session.specs.Session.{words_taken, bytes_taken, memory_in, Ready, Un
 -- a score's words W, and whatever stands behind them
 taken : (W R : List ℕ) → Holds W → words_taken (W ++ R) ≡ length W
 taken W R h =
-    let few : 3 < length W = omega (arith, h.size) in
+    let few : 3 < length W = omega (arith, h.proper.size) in
     let v : voices_in (W ++ R) ≡ voices_in W = get_or_append_left W R 0 2 (omega arith) in
     let n : limit_in (W ++ R) ≡ limit_in W = get_or_append_left W R 0 3 (omega arith) in
-    ap (λ x. words_asked x (limit_in (W ++ R))) v ∙ ap (λ x. words_asked (voices_in W) x) n ∙ sym h.size
+    ap (λ x. words_asked x (limit_in (W ++ R))) v ∙ ap (λ x. words_asked (voices_in W) x) n ∙ sym h.proper.size
 
 pub room : (W R : List ℕ) → Holds W → bytes_taken (W ++ R) ≡ bytes_taken W
 room W R h =
-    let few : 3 < length W = omega (arith, h.size) in
+    let few : 3 < length W = omega (arith, h.proper.size) in
     ap bytes_asked (get_or_append_left W R 0 3 (omega arith))
 
 pub words_front : (W R : List ℕ) → Holds W → take (words_taken (W ++ R)) (W ++ R) ≡ W

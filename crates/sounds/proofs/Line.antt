@@ -86,7 +86,7 @@ pub from_words :
     → n.rows.lengths.now ≡ take count (drop (lengths_from w + begin) w) → n.tick ≡ 0
     → Playable n × (heard_yet n ≡ heard (voice (score_of w) v) 0)
 from_words {w} {v} {begin} {count} n h s x y u t =
-    let z = h.size in
+    let z = h.proper.size in
     let within = s.within in
     let e : events_yet n ≡ voice (score_of w) v = rw (x, y, u) s.events in
     let lx = ap length x ∙ many (places_from w) (omega arith) in
@@ -94,8 +94,8 @@ from_words {w} {v} {begin} {count} n h s x y u t =
     let lu = ap length u ∙ many (lengths_from w) (omega arith) in (
       record {
         even = (ly ∙ sym lx, lu ∙ sym lx);
-        fines = ap all_fine e ∙ fines_voice (score_of w) v h.kept.fines;
-        short = omega (arith, t, ap total e, short_voice (score_of w) v h.kept.short);
+        fines = ap all_fine e ∙ fines_voice (score_of w) v h.proper.kept.fines;
+        short = omega (arith, t, ap total e, short_voice (score_of w) v h.proper.kept.short);
       },
       ap (λ (es : List Event). heard es n.tick) e ∙ ap (heard (voice (score_of w) v)) t,
     )

@@ -39,8 +39,8 @@ module _ (w : List ℕ) (h : Holds w) where
 
   rows_laid : Laid C (region (places_from w)) (region (alterations_from w)) (region (lengths_from w))
   rows_laid =
-      let z = h.size in
-      let k = h.kept in
+      let z = h.proper.size in
+      let k = h.proper.kept in
       let c = length-take (voices_in w) (drop 4 w) in
       let a = region_long (places_from w) (omega arith) in
       let b = region_long (alterations_from w) (omega arith) in
@@ -49,8 +49,8 @@ module _ (w : List ℕ) (h : Holds w) where
       let n = ap (λ (k : ℕ). sum (take k (drop 4 w))) all ∙ counts_sum w h (voices_in w) (omega arith) in
       let m = all_before w h in
       record {
-        few_voices = omega (arith, c, h.few_voices);
-        few_events = omega (arith, a, h.few_events);
+        few_voices = omega (arith, c, h.proper.good_limits.1);
+        few_events = omega (arith, a, h.proper.good_limits.2);
         alterations_too = b ∙ sym a;
         lengths_too = d ∙ sym a;
         fitting = omega (arith, n, m, a, k.fitting);
@@ -104,7 +104,7 @@ module _ (w : List ℕ) (h : Holds w) where
 
     lengths_there : map lasts (events_at w begin count) ≡ take count (drop (lengths_from w + begin) w)
     lengths_there =
-        let z = h.size in
+        let z = h.proper.size in
         let p = many (places_from w) (omega arith) in
         let x = many (alterations_from w) (omega arith) in
         let d = many (lengths_from w) (omega arith) in
@@ -113,16 +113,16 @@ module _ (w : List ℕ) (h : Holds w) where
     voice_timed : Timed (get_or w 1 0) (part (C w h) u (region w h (bars_from w))) (part (C w h) u (region w h (beats_from w))) (part (C w h) u (region w h (lengths_from w)))
     voice_timed =
         let k = spans_u.kept_with in
-        let all = onsets_timed (get_or w 0 0) (get_or w 1 0) (events_at w begin count) h.good_layout.1 in
+        let all = onsets_timed (get_or w 0 0) (get_or w 1 0) (events_at w begin count) h.proper.good_layout.1 in
         rw (row_part (bars_from w), row_part (beats_from w), row_part (lengths_from w), k.bars, k.beats)
         (subst (Timed (get_or w 1 0) (bars_of (get_or w 0 0) (get_or w 1 0) (events_at w begin count)) (ticks_of (get_or w 0 0) (get_or w 1 0) (events_at w begin count))) lengths_there all)
 
   rows_timed : AllTimed (C w h) (region w h (lengths_from w)) (get_or w 1 0) (region w h (bars_from w)) (region w h (beats_from w))
   rows_timed =
-      let z = h.size in
+      let z = h.proper.size in
       let d = region_long w h (lengths_from w) (omega arith) in
       record {
-        positive = h.good_layout.1;
+        positive = h.proper.good_layout.1;
         bars_too = region_long w h (bars_from w) (omega arith) ∙ sym d;
         ticks_too = region_long w h (beats_from w) (omega arith) ∙ sym d;
         each = λ u l. voice_timed u (omega (arith, length-take (voices_in w) (drop 4 w)));
@@ -132,7 +132,7 @@ pub timed_of : {w ns ps ds bs ts : List ℕ} {m : ℕ} → Holds w → ns ≡ ta
     → ds ≡ take (limit_in w) (drop (lengths_from w) w) → bs ≡ take (length ps) (drop (bars_from w + 0) w) → ts ≡ take (length ps) (drop (beats_from w + 0) w)
     → m ≡ get_or w 1 0 → AllTimed ns ds m bs ts
 timed_of {w} {ns} {ps} {ds} {bs} {ts} h n p d b t m =
-    let z = h.size in
+    let z = h.proper.size in
     let long : length ps ≡ limit_in w = ap length p ∙ region_long w h (places_from w) (omega arith) in
     let whole = λ (i : ℕ). ap₂ (λ (k j : ℕ). take k (drop j w)) long (let e : i + 0 ≡ i = omega arith in e) in
     let bars : bs ≡ region w h (bars_from w) = b ∙ whole (bars_from w) in

@@ -197,7 +197,7 @@ module _ (w whole hs : List ℕ) (at to bar tick : ℕ) (t : Ahead w whole at to
   positive = omega (arith, d.in_bar, same 1 (omega arith))
 
   pub low_tick : tick < 768
-  low_tick = omega (arith, d.in_bar, d.stale.good_layout.2)
+  low_tick = omega (arith, d.in_bar, d.stale.proper.good_layout.2)
 
 -- where all events before `to` are derived, none is ahead of the marks
 pub run_ended : (w whole : List ℕ) (to bar tick : ℕ) (st : ℕ → ℕ) → Ahead w whole to to bar tick st → Deriving w to bar tick st × (kept_anew w ≡ whole)
@@ -214,7 +214,7 @@ module _ (w : List ℕ) (at bar tick : ℕ) (st : ℕ → ℕ) (d : Deriving w a
   run_begun to le x e =
       let ms : List ℕ = marked to end_of_all (marks_asked (limit_in w)) in
       let V : List ℕ = take (marks_from w) w ++ ms in
-      let size = d.stale.size in
+      let size = d.stale.proper.size in
       let limit : limit_in V ≡ limit_in w = word_same w size ms 3 (omega arith) in
       let voices : voices_in V ≡ voices_in w = word_same w size ms 2 (omega arith) in
       let back : with_marks V at end_of_all ≡ w =
@@ -260,5 +260,5 @@ module _ (w₀ w hs : List ℕ) (at bar tick m : ℕ) (d : Deriving w at bar tic
       let x : take (marks_from w) w ++ ms ≡ put_mid m (length w - m) w last =
       sym (put_tail w last m ∙ ap₂ (λ xs ys. xs ++ ys) (ap (λ i. take i w) same_marks) (rest E le lent_own ∙ ap (marked to E) long_lent)) in
       let header : take counts_from (take (marks_from w) w ++ ms) ≡ take counts_from w =
-      take-append-le counts_from (take (marks_from w) w) ms (omega (arith, long w d.stale.size ms)) ∙ take-take counts_from (marks_from w) w (omega arith) in
+      take-append-le counts_from (take (marks_from w) w) ms (omega (arith, long w d.stale.proper.size ms)) ∙ take-take counts_from (marks_from w) w (omega arith) in
       (subst (λ i. Ahead (put_mid m (length w - m) w last) i at to bar tick (held_in (get_or w₀ 0 0) hs)) whole_is (run_begun w at bar tick _ d to (omega (arith, r)) _ x), ap (take counts_from) (sym x) ∙ (header ∙ he), omega (arith, r, lt))

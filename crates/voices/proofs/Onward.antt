@@ -15,8 +15,8 @@ use Rattle.keys.proofs.Holding.{needed_is, holding_is}
 use Rattle.marks.specs.Marked.{has}
 use Rattle.marks.proofs.Bits.{length_marked}
 use Rattle.memory.specs.Moves.{rows_set}
-use Rattle.memory.specs.Store.{marks_asked, words_asked, no_marks, voices_in, limit_in, places_from, alterations_from, lengths_from, counts_from, bars_from, marks_from, score_of}
-use Rattle.memory.specs.Words.{kept_anew, Unkept, Deriving}
+use Rattle.memory.specs.Store.{marks_asked, no_marks, limit_in, places_from, alterations_from, lengths_from, counts_from, bars_from, marks_from, score_of}
+use Rattle.memory.specs.Words.{Proper, kept_anew, Unkept, Deriving}
 use Rattle.voices.specs.declared.regions.Regions.{Regions}
 use Rattle.voices.specs.Regions.{regions_in}
 use Rattle.memory.proofs.Anew.{all_anew, end_within, at_within, marks_there, mark_there, bar_small, then_is, next_derived, same_anew}
@@ -146,18 +146,14 @@ module _ (w₀ w hs : List ℕ) (at bar tick m : ℕ) (d : Deriving w at bar tic
 
 pub record Room (w : List ℕ) (begin count : ℕ) : Type 0 where
   pub inside : begin + count ≤ limit_in w
-  pub size : length w ≡ words_asked (voices_in w) (limit_in w)
-  pub few_events : limit_in w ≤ 65536
-  pub few_voices : voices_in w ≤ 64
+  pub proper : Proper w
 
 pub room : (w : List ℕ) (begin count from to : ℕ) → Unkept w begin count from to → Room w begin count
 room w begin count from to u =
-    let c : u.voice_number < length (score_of w) = rw u.stale.kept.so_many u.stale.there in
+    let c : u.voice_number < length (score_of w) = rw u.stale.proper.kept.so_many u.stale.there in
     record {
-      inside = omega (arith, voice_le (score_of w) u.voice_number c, u.stale.kept.fitting, u.lies.begins, u.lies.counts);
-      size = u.stale.size;
-      few_events = u.stale.few_events;
-      few_voices = u.stale.few_voices;
+      inside = omega (arith, voice_le (score_of w) u.voice_number c, u.stale.proper.kept.fitting, u.lies.begins, u.lies.counts);
+      proper = u.stale.proper;
     }
 
 -- no mark is set before

@@ -8,7 +8,7 @@ use Rattle.session.proofs.answers.print.Goals as goal
 pub returns : goal.returns
 returns c =
     let w = c.args.score.words.now in
-    let y = c.args.score.holds.good_layout in
+    let y = c.args.score.holds.proper.good_layout in
     let es = events_at w c.args.span.begin c.args.span.count in
     let most : length (shown (get_or w 0 0) (get_or w 1 0) es c.args.bar c.args.count) ≤ page_bytes =
     page_enough (get_or w 0 0) (get_or w 1 0) es c.args.bar c.args.count y.1 y.3 c.requires.fine y.2 c.requires.few in

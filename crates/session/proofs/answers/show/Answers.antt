@@ -34,7 +34,7 @@ print-long-requires c =
     let b = c.args.bytes.now in
     let holds : Holds w = c.args.score.holds in
     let fine : all_fine (events_at w c.in-Some-find_voice.span.begin c.in-Some-find_voice.span.count) ≡ true =
-    ap all_fine s.events ∙ fines_voice (score_of w) c.args.voice holds.kept.fines in
+    ap all_fine s.events ∙ fines_voice (score_of w) c.args.voice holds.proper.kept.fines in
     let room : page_bytes ≤ length (take (length b - 5) (drop 5 b)) = rw (take_rest b 5, length-drop 5 b) (omega (arith, c.requires)) in
     record { within = s.within; kept = s.kept_with; fine = fine; few = omega (arith, f.0, f.1); room = room }
 

@@ -13,12 +13,12 @@ unfolding lasts total fine all_fine all_events none_too_long voice_of among sign
 returns c = record {
   holds = record {
     is = refl;
-    kept = record { so_many = refl; fitting = omega arith; short = refl; fines = refl };
-    size = refl;
-    some_voices = omega arith;
-    few_voices = omega arith;
-    few_events = omega arith;
-    good_layout = (omega arith, omega arith, omega arith, refl);
+    proper = record {
+      good_limits = (omega arith, omega arith, omega arith);
+      good_layout = (omega arith, omega arith, omega arith, refl);
+      kept = record { so_many = refl; fitting = omega arith; short = refl; fines = refl };
+      size = refl;
+    };
   };
   limit = refl;
 }

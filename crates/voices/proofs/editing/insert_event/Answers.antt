@@ -8,7 +8,7 @@ pub overflow_add-words : goal.overflow_add-words
 overflow_add-words c =
     let n = count_at c.args.words.now c.requires.holds c.args.voice c.requires.there in
     let l = within_limit c.args.words.now c.requires.holds c.args.voice c.requires.there in
-    omega (arith, c.requires.holds.few_events)
+    omega (arith, c.requires.holds.proper.good_limits.2)
 
 pub returns : goal.returns
 unfolding rows_in with_event

@@ -12,25 +12,25 @@ use Rattle.voices.proofs.keeping.keep.Goals as goal
 use Rattle.voices.proofs.keeping.keep.Goals.{Joined-first-gt0, then-first-gt0, else-first-gt0}
 
 pub part_of-requires : goal.part_of-requires
-part_of-requires c = let r = room _ _ _ _ _ c.requires.unkept in omega (arith, bars_is _ c.args.words.now c.regions_of-regions.ensures.begins, r.inside, r.size)
+part_of-requires c = let r = room _ _ _ _ _ c.requires.unkept in omega (arith, bars_is _ c.args.words.now c.regions_of-regions.ensures.begins, r.inside, r.proper.size)
 
 pub first_of_bar-first-requires : goal.first_of_bar-first-requires
 first_of_bar-first-requires c =
     let r = room _ _ _ _ _ c.requires.unkept in
     let from : ℕ = get_or c.regions_of-regions.result.onsets 0 0 + c.args.span.begin in
-    let rest : c.args.span.count ≤ length (drop from c.args.words.now) = rw (length-drop from c.args.words.now) (omega (arith, bars_is _ c.args.words.now c.regions_of-regions.ensures.begins, r.inside, r.size)) in
+    let rest : c.args.span.count ≤ length (drop from c.args.words.now) = rw (length-drop from c.args.words.now) (omega (arith, bars_is _ c.args.words.now c.regions_of-regions.ensures.begins, r.inside, r.proper.size)) in
     let l = ap length c.part_of.ensures ∙ length-take-le c.args.span.count (drop from c.args.words.now) rest in
     omega (arith, l, c.requires.range, c.requires.within)
 
 pub overflow_add-at : goal.overflow_add-at
-overflow_add-at c = let r = room _ _ _ _ _ c.requires.unkept in omega (arith, r.inside, r.few_events, c.requires.range, c.requires.within, c.first_of_bar-first.ensures.before)
+overflow_add-at c = let r = room _ _ _ _ _ c.requires.unkept in omega (arith, r.inside, r.proper.good_limits.2, c.requires.range, c.requires.within, c.first_of_bar-first.ensures.before)
 
 pub onset_at-requires : goal.onset_at-requires
 onset_at-requires c =
     let r = room _ _ _ _ _ c.requires.unkept in
     record {
       regions = c.regions_of-regions.ensures.begins;
-      size = r.size;
+      size = r.proper.size;
       within = elim c.first_of_bar-first.ensures.first [
         | inl z ↦ absurd (omega (arith, z, c.if-first-gt0.true))
         | inr q ↦ omega (arith, q.1, r.inside, c.requires.range, c.requires.within)
@@ -38,7 +38,7 @@ onset_at-requires c =
     }
 
 pub overflow_add-span : goal.overflow_add-span
-overflow_add-span c = let r = room _ _ _ _ _ c.requires.unkept in omega (arith, r.inside, r.few_events, c.requires.within)
+overflow_add-span c = let r = room _ _ _ _ _ c.requires.unkept in omega (arith, r.inside, r.proper.good_limits.2, c.requires.within)
 
 pub mark-requires : goal.mark-requires
 mark-requires c =
@@ -103,8 +103,7 @@ module _ (c : Joined-first-gt0) where
   -- their header is as it was
   same_key : get_or marked_words 0 0 ≡ get_or w 0 0
   same_key =
-      let u = c.requires.unkept in
-      get_or_append_left (take (marks_from w) w) _ 0 0 (omega (arith, length-take-le (marks_from w) w (omega (arith, (room _ _ _ _ _ c.requires.unkept).size)))) ∙ get_or-take (marks_from w) w 0 0 (omega arith)
+      get_or_append_left (take (marks_from w) w) _ 0 0 (omega (arith, length-take-le (marks_from w) w (omega (arith, (room _ _ _ _ _ c.requires.unkept).proper.size)))) ∙ get_or-take (marks_from w) w 0 0 (omega arith)
 
 pub derive-requires-clause-state : goal.derive-requires-clause-state
 derive-requires-clause-state c =

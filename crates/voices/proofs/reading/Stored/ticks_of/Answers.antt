@@ -8,5 +8,5 @@ use Rattle.voices.proofs.reading.Stored.ticks_of.Goals as goal
 pub returns : goal.returns
 returns c =
     let t = ap (λ n. get_or c.args.self.words.now n 0) c.ticks_at.ensures ∙ ticks_at c.args.self.words.now c.args.self.holds c.args.voice c.requires in
-    let s = short_voice (score_of c.args.self.words.now) c.args.voice c.args.self.holds.kept.short in
+    let s = short_voice (score_of c.args.self.words.now) c.args.voice c.args.self.holds.proper.kept.short in
     record { value = t; short = omega arith }
