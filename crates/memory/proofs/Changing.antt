@@ -1,7 +1,7 @@
 -- In the middle of a change: the score is the one that the change leaves, and what is kept with its events is still to be derived anew. Assumes nothing.
 use Rattle.std.proofs.Common.{◌≡◌, ℕ, suc, ◌+◌, ◌-◌, ◌<◌, ◌≤◌, true, ◌⊎◌, List, [], ◌∷◌, ◌++◌, length, get_or, take, drop, set, sym, refl, ap, ◌∙◌, subst, ap₂, inl, inr, arith}
 use Rattle.std.specs.List.{insert, remove}
-use Rattle.std.proofs.lemmas.List.{length-append, length-set, length-replicate, take_at, take-set, drop_all, drop-set-lt, length-take-le, get_or-set_same}
+use Rattle.std.proofs.lemmas.List.{length-append, length-set, length-replicate, take-append-le, take-take, take-set, drop_all, drop-set-lt, length-take-le, get_or-set_same}
 use Rattle.std.proofs.lemmas.List.Edits.{length-insert, length-remove}
 use Rattle.score.specs.Music.{Event, fine, lasts, total}
 use Rattle.score.specs.Print.{key}
@@ -23,12 +23,15 @@ use Rattle.memory.proofs.Left.{put_left, cut_left, change_left}
 
 -- ---- the parts of a row before and behind what comes in, goes out or becomes another
 
-module _ {X : Type 0} (V : List X) (i : ℕ) where
-  pub take_inserted : (x : X) → i ≤ length V → take i (insert V i x) ≡ take i V
-  take_inserted x li = take_at (take i V) (x ∷ drop i V) i (length-take-le i V li)
+module _ {X : Type 0} (V : List X) (i k : ℕ) (le : i ≤ k) (lk : k ≤ length V) where
+  before : (xs : List X) → take i (take k V ++ xs) ≡ take i V
+  before xs = take-append-le i (take k V) xs (omega (arith, length-take-le k V lk)) ∙ take-take i k V le
 
-  pub take_removed : i ≤ length V → take i (remove V i) ≡ take i V
-  take_removed li = take_at (take i V) (drop (suc i) V) i (length-take-le i V li)
+  pub take_inserted : (x : X) → take i (insert V k x) ≡ take i V
+  take_inserted x = before (x ∷ drop k V)
+
+  pub take_removed : take i (remove V k) ≡ take i V
+  take_removed = before (drop (suc k) V)
 
 -- ---- words in the middle of a change
 
@@ -137,8 +140,11 @@ module _ (w : List ℕ) (h : Holds w) (v i j t begin count : ℕ) (lv : v < voic
   split : all_onsets (layout_of w) S ≡ A ++ (onsets_of K B V ++ C)
   split = spread_split (onsets_of K B) S v (rw h.proper.kept.so_many lv)
 
-  j_is : j ≡ length A + i
-  j_is = omega (arith, length_all_onsets (layout_of w) (take v S), sp.begins)
+  begin_is : begin ≡ length A
+  begin_is = omega (arith, length_all_onsets (layout_of w) (take v S), sp.begins)
+
+  in_all : begin + count ≤ all_events S
+  in_all = omega (arith, voice_le S v (rw h.proper.kept.so_many lv), sp.begins, sp.counts)
 
   place_is : j ≡ all_events (take v S) + i
   place_is = omega (arith, sp.begins)
@@ -155,36 +161,36 @@ module _ (w : List ℕ) (h : Holds w) (v i j t begin count : ℕ) (lv : v < voic
   none_behind os ps to lo lp = drop_all to os lo ∙ sym (drop_all to ps lp)
 
   pub put_between : (e : Event) (u : ℕ) → fine e ≡ true → i ≤ count → all_events S < limit_in w → t < ticks_end → u ≡ all_events S → t ≡ total V + lasts e →
-      Between w (put v i e) (with_event w v u j t (stands e) (alters e) (lasts e)) begin (count + 1) i (count + 1)
+      Between w (put v i e) (with_event w v u j (begin + count) t (stands e) (alters e) (lasts e)) begin (count + 1) i (count + 1)
   unfolding changed
   put_between e u ok li room short eu et =
       let d = put_done w h v i e ok lv (omega (arith, sp.counts)) room (omega arith) in
       let lo = as_many in
       let ln = length-insert V i e (omega (arith, sp.counts)) in
-      let lm = length-insert (onsets_of K B V) i no_onset (omega (arith, sp.counts)) in
+      let lm = length-insert (onsets_of K B V) count no_onset (omega (arith, sp.counts)) in
       let lx = length_onsets K B 0 0 (key K) (insert V i e) in
-      between w h (put v i e) v lv (insert V i e) d refl _ i (count + 1) begin (count + 1) (insert (onsets_of K B V) i no_onset) (insert (all_onsets (layout_of w) S) j no_onset)
-      (put_left w h v i j t lv place_is e u (omega (arith, sp.counts)) (omega (arith, voice_le S v (rw h.proper.kept.so_many lv), sp.begins, sp.counts)) room eu et d.kept)
-      (ap (λ os. insert os j no_onset) split ∙ inserted_among A (onsets_of K B V) C i j j_is no_onset (omega (arith, sp.counts)))
+      between w h (put v i e) v lv (insert V i e) d refl _ i (count + 1) begin (count + 1) (insert (onsets_of K B V) count no_onset) (insert (all_onsets (layout_of w) S) (begin + count) no_onset)
+      (put_left w h v i j t lv place_is e u (begin + count) (omega (arith, sp.counts)) (omega (arith, in_all)) (omega (arith, in_all)) room eu et d.kept)
+      (ap (λ os. insert os (begin + count) no_onset) split ∙ inserted_among A (onsets_of K B V) C count (begin + count) (omega (arith, begin_is)) no_onset (omega (arith, sp.counts)))
       (omega arith)
-      (take_inserted (onsets_of K B V) i no_onset (omega (arith, sp.counts)) ∙ sym (front_is (insert V i e) (take_inserted V i e (omega (arith, sp.counts)))))
+      (take_inserted (onsets_of K B V) i count li (omega (arith, sp.counts)) no_onset ∙ sym (front_is (insert V i e) (take_inserted V i i (omega arith) (omega (arith, sp.counts)) e)))
       (none_behind _ _ (count + 1) (omega (arith, sp.counts)) (omega (arith, sp.counts)))
       sp.begins (omega (arith, sp.counts))
 
   pub cut_between : (old : Event) (u : ℕ) → i < count → u ≡ all_events S → t ≡ total V - lasts (get_or V i old) →
-      Between w (cut v i) (without_event w v u j t) begin (count - 1) i (count - 1)
+      Between w (cut v i) (without_event w v u j (begin + (count - 1)) t) begin (count - 1) i (count - 1)
   unfolding changed
   cut_between old u li eu et =
       let d = cut_done w h v i lv (omega (arith, sp.counts)) in
       let lo = as_many in
       let ln = length-remove V i (omega (arith, sp.counts)) in
-      let lm = length-remove (onsets_of K B V) i (omega (arith, sp.counts)) in
+      let lm = length-remove (onsets_of K B V) (count - 1) (omega (arith, sp.counts)) in
       let lx = length_onsets K B 0 0 (key K) (remove V i) in
-      between w h (cut v i) v lv (remove V i) d refl _ i (count - 1) begin (count - 1) (remove (onsets_of K B V) i) (remove (all_onsets (layout_of w) S) j)
-      (cut_left w h v i j t lv place_is old u (omega (arith, sp.counts)) (omega (arith, voice_le S v (rw h.proper.kept.so_many lv), sp.begins, sp.counts)) eu et d.kept)
-      (ap (λ os. remove os j) split ∙ removed_among A (onsets_of K B V) C i j j_is no_onset (omega (arith, sp.counts)))
+      between w h (cut v i) v lv (remove V i) d refl _ i (count - 1) begin (count - 1) (remove (onsets_of K B V) (count - 1)) (remove (all_onsets (layout_of w) S) (begin + (count - 1)))
+      (cut_left w h v i j t lv place_is old u (begin + (count - 1)) (omega (arith, sp.counts)) (omega (arith, in_all)) (omega (arith, in_all)) eu et d.kept)
+      (ap (λ os. remove os (begin + (count - 1))) split ∙ removed_among A (onsets_of K B V) C (count - 1) (begin + (count - 1)) (omega (arith, begin_is)) no_onset (omega (arith, sp.counts)))
       (omega arith)
-      (take_removed (onsets_of K B V) i (omega (arith, sp.counts)) ∙ sym (front_is (remove V i) (take_removed V i (omega (arith, sp.counts)))))
+      (take_removed (onsets_of K B V) i (count - 1) (omega arith) (omega (arith, sp.counts)) ∙ sym (front_is (remove V i) (take_removed V i i (omega arith) (omega (arith, sp.counts)))))
       (none_behind _ _ (count - 1) (omega (arith, sp.counts)) (omega (arith, sp.counts)))
       sp.begins (omega (arith, sp.counts))
 

@@ -29,33 +29,33 @@ module _ (w : List ℕ) (h : Holds w) (v i j t : ℕ) (lv : v < voices_in w) (ej
   unfolding stored
   as_held = h.is
 
-  pub put_left : (e : Event) (u : ℕ) → i ≤ length (voice s v) → j ≤ all_events s → all_events s < limit_in w → u ≡ all_events s →
+  pub put_left : (e : Event) (u q : ℕ) → i ≤ length (voice s v) → j ≤ all_events s → q ≤ all_events s → all_events s < limit_in w → u ≡ all_events s →
       t ≡ total (voice s v) + lasts e → Kept (limits_of w) (changed s (put v i e)) →
-      with_event w v u j t (stands e) (alters e) (lasts e) ≡ with_onsets (changed s (put v i e)) (insert os j no_onset)
+      with_event w v u j q t (stands e) (alters e) (lasts e) ≡ with_onsets (changed s (put v i e)) (insert os q no_onset)
   unfolding with_event
-  put_left e u li lj room eu et k =
+  put_left e u q li lj lq room eu et k =
       let n : ℕ = limit_in w in
       let c : get_or w (4 + v) 0 + 1 ≡ length (voice s v) + 1 = ap (λ n. n + 1) (count_at w h v lv) in
       let lo : length os ≡ u = length_all_onsets (layout_of w) s ∙ sym eu in
-      ap (λ x. rows_in (set (set (rows_in x (places_from w) n u j (stands e) (alters e) (lasts e)) (4 + v) (get_or w (4 + v) 0 + 1)) (4 + voices_in w + v) t) (bars_from w) n u j 0 0 0) as_held
-      ∙ (ap (λ x. rows_in x (bars_from w) n u j 0 0 0)
+      ap (λ x. rows_in (set (set (rows_in x (places_from w) n u j (stands e) (alters e) (lasts e)) (4 + v) (get_or w (4 + v) 0 + 1)) (4 + voices_in w + v) t) (bars_from w) n u q 0 0 0) as_held
+      ∙ (ap (λ x. rows_in x (bars_from w) n u q 0 0 0)
       (put_stored (limits_of w) (layout_of w) s h.proper.kept v i (places_from w) j lv refl ej (onset_rows n os (no_marks n)) e u (get_or w (4 + v) 0 + 1) t li room eu c et)
-      ∙ (ap (λ z. rows_in (with_onsets (changed s (put v i e)) os) (bars_from w) n z j 0 0 0) (sym lo)
-      ∙ onset_in (limits_of w) (layout_of w) (changed s (put v i e)) k os (no_marks n) (bars_from w) refl j (omega arith) (omega arith)))
+      ∙ (ap (λ z. rows_in (with_onsets (changed s (put v i e)) os) (bars_from w) n z q 0 0 0) (sym lo)
+      ∙ onset_in (limits_of w) (layout_of w) (changed s (put v i e)) k os (no_marks n) (bars_from w) refl q (omega arith) (omega arith)))
 
-  pub cut_left : (old : Event) (u : ℕ) → i < length (voice s v) → j < all_events s → u ≡ all_events s → t ≡ total (voice s v) - lasts (get_or (voice s v) i old) →
+  pub cut_left : (old : Event) (u q : ℕ) → i < length (voice s v) → j < all_events s → q < all_events s → u ≡ all_events s → t ≡ total (voice s v) - lasts (get_or (voice s v) i old) →
       Kept (limits_of w) (changed s (cut v i)) →
-      without_event w v u j t ≡ with_onsets (changed s (cut v i)) (remove os j)
+      without_event w v u j q t ≡ with_onsets (changed s (cut v i)) (remove os q)
   unfolding without_event
-  cut_left old u li lj eu et k =
+  cut_left old u q li lj lq eu et k =
       let n : ℕ = limit_in w in
       let c : get_or w (4 + v) 0 - 1 ≡ length (voice s v) - 1 = ap (λ n. n - 1) (count_at w h v lv) in
       let lo : length os ≡ u = length_all_onsets (layout_of w) s ∙ sym eu in
-      ap (λ x. rows_out (set (set (rows_out x (places_from w) n u j) (4 + v) (get_or w (4 + v) 0 - 1)) (4 + voices_in w + v) t) (bars_from w) n u j) as_held
-      ∙ (ap (λ x. rows_out x (bars_from w) n u j)
+      ap (λ x. rows_out (set (set (rows_out x (places_from w) n u j) (4 + v) (get_or w (4 + v) 0 - 1)) (4 + voices_in w + v) t) (bars_from w) n u q) as_held
+      ∙ (ap (λ x. rows_out x (bars_from w) n u q)
       (cut_stored (limits_of w) (layout_of w) s h.proper.kept v i (places_from w) j lv refl ej (onset_rows n os (no_marks n)) old u (get_or w (4 + v) 0 - 1) t li eu c et)
-      ∙ (ap (λ z. rows_out (with_onsets (changed s (cut v i)) os) (bars_from w) n z j) (sym lo)
-      ∙ onset_out (limits_of w) (layout_of w) (changed s (cut v i)) k os (no_marks n) (bars_from w) refl j (omega arith) (omega (arith, h.proper.kept.fitting))))
+      ∙ (ap (λ z. rows_out (with_onsets (changed s (cut v i)) os) (bars_from w) n z q) (sym lo)
+      ∙ onset_out (limits_of w) (layout_of w) (changed s (cut v i)) k os (no_marks n) (bars_from w) refl q (omega arith) (omega (arith, h.proper.kept.fitting))))
 
   pub change_left : (e old : Event) → i < length (voice s v) → t ≡ total (voice s v) - lasts (get_or (voice s v) i old) + lasts e →
       with_other w v j t (stands e) (alters e) (lasts e) ≡ with_onsets (changed s (change v i e)) os

@@ -88,15 +88,18 @@ module _ (w : List ℕ) (h : Holds w) (v i : ℕ) where
       pub gap_in_all : at ≤ all_events (score_of w)
       gap_in_all = omega (arith, gap_within w h v i t.spans.there in_it, g.1, t.spans.begins)
 
+      pub end_in_all : span.begin + span.count ≤ all_events (score_of w)
+      end_in_all = let c = t.spans.counts in omega (arith, gap_within w h v span.count t.spans.there (omega (arith, c)), t.spans.begins)
+
       pub put_is : (used ticks : ℕ) → (used ≡ all_events (score_of w)) × (used < limit_in w) → (ticks ≡ total V - 0 + row.length) × (ticks < ticks_end) →
-          Done w (put v i e) (with_event w v used at ticks row.place row.alteration row.length) span.begin (span.count + 1) i (span.count + 1)
+          Done w (put v i e) (with_event w v used at (span.begin + span.count) ticks row.place row.alteration row.length) span.begin (span.count + 1) i (span.count + 1)
       unfolding told
       put_is used ticks u k =
           let long_then : ticks ≡ total V + lasts e = omega (arith, k.0, long) in
           let room : all_events (score_of w) < limit_in w = omega (arith, u.0, u.1) in
           let d = put_done w h v i e t.can_write t.spans.there in_it room (omega (arith, k.1)) in
           let mid = put_between w h v i at ticks span.begin span.count t.spans.there t.spans g.1 e used t.can_write (omega (arith, g.0)) room k.1 u.0 long_then in
-          let words = ap (λ r. with_event w v used at ticks r.place r.alteration r.length) t.words in
+          let words = ap (λ r. with_event w v used at (span.begin + span.count) ticks r.place r.alteration r.length) t.words in
           done_between (sym d.said) d.holds (subst (λ x. Between w (put v i e) x span.begin (span.count + 1) i (span.count + 1)) (sym words) mid)
 
   -- an event that is there
@@ -125,10 +128,13 @@ module _ (w : List ℕ) (h : Holds w) (v i : ℕ) where
       pub in_all : at < all_events (score_of w)
       in_all = omega (arith, place_within w h v i s.there is_there, place_is)
 
+      pub last_in_all : span.begin + (span.count - 1) < all_events (score_of w)
+      last_in_all = let c = s.counts in omega (arith, place_within w h v (span.count - 1) s.there (omega (arith, c, g.0)), s.begins, g.0)
+
       pub some_there : 0 < get_or w (counts_from + v) 0
       some_there = omega (arith, count_at w h v s.there, is_there)
 
-      pub cut_is : (used ticks : ℕ) → used ≡ all_events (score_of w) → ticks ≡ total V - old.length → Done w (cut v i) (without_event w v used at ticks) span.begin (span.count - 1) i (span.count - 1)
+      pub cut_is : (used ticks : ℕ) → used ≡ all_events (score_of w) → ticks ≡ total V - old.length → Done w (cut v i) (without_event w v used at (span.begin + (span.count - 1)) ticks) span.begin (span.count - 1) i (span.count - 1)
       unfolding told
       cut_is used ticks u k =
           let d = cut_done w h v i s.there is_there in

@@ -29,7 +29,7 @@ pub struct StoredMut<'a> {
     pub ghost holds: { Holds words.now },
 }
 
-// The next five go over plain words: between the first write and the last no score lies there. They take a voice, a place and ticks one by one, as the
+// The next five go over plain words: between the first write and the last no score lies there. They take a voice, places and ticks one by one, as the
 // definitions with_event, without_event and with_other do.
 
 /// A word comes in at a place of each of three regions of `limit` words, of which so many are in use. The first of them begins at a word.
@@ -60,13 +60,23 @@ fn remove_row(words: &mut [u32], begin: usize, limit: usize, used: usize, at: us
     remove_at(words, last + at, last + used);
 }
 
-/// An event comes in at a place of each region, into a voice that is then so many ticks long. Where it begins on paper is still to be derived.
-fn insert_event(words: &mut [u32], voice: usize, used: usize, at: usize, ticks: u32, row: Row)
+/// An event comes in at a place, into a voice that ends at another and is then so many ticks long. Where events begin on paper is derived anew from that one
+/// on, so of this nothing is moved but what is other voices'.
+fn insert_event(
+    words: &mut [u32],
+    voice: usize,
+    used: usize,
+    at: usize,
+    end: usize,
+    ticks: u32,
+    row: Row,
+)
     requires holds { Holds words.old }
     requires there { voice < voices_in words.old }
     requires within { at ≤ used }
+    requires inside { end ≤ used }
     requires room { used < limit_in words.old }
-    ensures { words.new ≡ with_event words.old voice used at ticks row.place row.alteration row.length }
+    ensures { words.new ≡ with_event words.old voice used at end ticks row.place row.alteration row.length }
 {
     let regions = regions_of(words);
     let limit = words[LIMIT] as usize;
@@ -75,17 +85,18 @@ fn insert_event(words: &mut [u32], voice: usize, used: usize, at: usize, ticks: 
     insert_row(words, regions.rows[0], limit, used, at, row);
     words[COUNTS + voice] = count + 1;
     words[ticks_at] = ticks;
-    insert_row(words, regions.onsets[0], limit, used, at, UNKNOWN);
+    insert_row(words, regions.onsets[0], limit, used, end, UNKNOWN);
 }
 
-/// The event at a place goes out of each region, from a voice that is then so many ticks long.
-fn remove_event(words: &mut [u32], voice: usize, used: usize, at: usize, ticks: u32)
+/// The event at a place goes out, from a voice whose last is at another and which is then so many ticks long.
+fn remove_event(words: &mut [u32], voice: usize, used: usize, at: usize, last: usize, ticks: u32)
     requires holds { Holds words.old }
     requires there { voice < voices_in words.old }
     requires some { 0 < slice_index words.old (counts_from + voice) }
     requires within { at < used }
+    requires inside { last < used }
     requires room { used ≤ limit_in words.old }
-    ensures { words.new ≡ without_event words.old voice used at ticks }
+    ensures { words.new ≡ without_event words.old voice used at last ticks }
 {
     let regions = regions_of(words);
     let limit = words[LIMIT] as usize;
@@ -94,7 +105,7 @@ fn remove_event(words: &mut [u32], voice: usize, used: usize, at: usize, ticks: 
     remove_row(words, regions.rows[0], limit, used, at);
     words[COUNTS + voice] = count - 1;
     words[ticks_at] = ticks;
-    remove_row(words, regions.onsets[0], limit, used, at);
+    remove_row(words, regions.onsets[0], limit, used, last);
 }
 
 /// The event at a place of each region becomes another, in a voice that is then so many ticks long.
@@ -147,7 +158,8 @@ impl<'a> StoredMut<'a> {
             return Err(Refusal::Full);
         };
         let words = &mut *self.words;
-        insert_event(words, voice as usize, used, at, ticks, row);
+        let end = span.begin + span.count;
+        insert_event(words, voice as usize, used, at, end, ticks, row);
         let count = span.count + 1;
         keep(words, Span { count, ..span }, index as usize, count);
         Ok(())
@@ -169,8 +181,8 @@ impl<'a> StoredMut<'a> {
         let ticks = score.ticks_of(voice as usize) - score.row_at(at).length;
         let used = score.events_in();
         let words = &mut *self.words;
-        remove_event(words, voice as usize, used, at, ticks);
         let count = span.count - 1;
+        remove_event(words, voice as usize, used, at, span.begin + count, ticks);
         keep(words, Span { count, ..span }, index as usize, count);
         Ok(())
     }

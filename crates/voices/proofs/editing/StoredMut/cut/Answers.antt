@@ -1,7 +1,7 @@
 -- A voice or an event that is not there turns the cut away; else the words lie as the score then has them.
 use Rattle.std.proofs.Common.{◌-◌, refl, sym, ap, subst, arith}
 use Rattle.score.specs.Calls.{cut}
-use Rattle.voices.proofs.Found.{Done, no_voice_to_cut, no_event_to_cut, not_longer, in_all, some_there, cut_is}
+use Rattle.voices.proofs.Found.{Done, no_voice_to_cut, no_event_to_cut, not_longer, in_all, last_in_all, some_there, cut_is}
 use Rattle.voices.proofs.editing.StoredMut.cut.Goals as goal
 use Rattle.voices.proofs.editing.StoredMut.cut.Goals.{After-remove_event}
 
@@ -26,6 +26,11 @@ remove_event-requires-clause-some c = rw (← c.read-score.ensures) (some_there 
 pub remove_event-requires-clause-within : goal.remove_event-requires-clause-within
 remove_event-requires-clause-within c =
     let n = in_all c.read-score.result.words.now c.read-score.result.holds c.args.voice c.args.index _ c.in-Some.ensures _ c.in-Some-find.ensures _ c.row_at.ensures in
+    omega (arith, n, c.events_in-used.ensures.value)
+
+pub remove_event-requires-clause-inside : goal.remove_event-requires-clause-inside
+remove_event-requires-clause-inside c =
+    let n = last_in_all c.read-score.result.words.now c.read-score.result.holds c.args.voice c.args.index _ c.in-Some.ensures _ c.in-Some-find.ensures _ c.row_at.ensures in
     omega (arith, n, c.events_in-used.ensures.value)
 
 -- the words without the event, before what is kept is derived anew

@@ -2,7 +2,7 @@
 use Rattle.std.proofs.Common.{◌+◌, refl, sym, subst, arith}
 use Rattle.score.specs.Meaning.{event_meant}
 use Rattle.score.specs.Calls.{put}
-use Rattle.voices.proofs.Found.{Done, short_row, no_gap, no_room, too_long_to_put, gap_in_all, put_is}
+use Rattle.voices.proofs.Found.{Done, short_row, no_gap, no_room, too_long_to_put, gap_in_all, end_in_all, put_is}
 use Rattle.voices.proofs.editing.StoredMut.put.Goals as goal
 use Rattle.voices.proofs.editing.StoredMut.put.Goals.{After-insert_event}
 
@@ -27,6 +27,11 @@ returns-in_default-find_ticks c =
 pub insert_event-requires-clause-within : goal.insert_event-requires-clause-within
 insert_event-requires-clause-within c =
     let g = gap_in_all c.read-score.result.words.now c.read-score.result.holds c.args.voice c.args.index (event_meant c.args.event) _ _ c.in_ok-row.ensures _ c.in-Some.ensures in
+    omega (arith, g, c.in-Some-find_room.ensures.0)
+
+pub insert_event-requires-clause-inside : goal.insert_event-requires-clause-inside
+insert_event-requires-clause-inside c =
+    let g = end_in_all c.read-score.result.words.now c.read-score.result.holds c.args.voice c.args.index (event_meant c.args.event) _ _ c.in_ok-row.ensures _ c.in-Some.ensures in
     omega (arith, g, c.in-Some-find_room.ensures.0)
 
 -- the words with the event in them, before what is kept is derived anew
