@@ -1,6 +1,7 @@
 //! Changes of one voice: put, cut, and a change of an event into one that is as long.
 use std::hint::black_box;
 
+use crate::bare::Bare;
 use crate::library;
 use crate::limit::Rows;
 use crate::model::{call_bytes, Call, Event, Score};
@@ -11,25 +12,30 @@ use crate::times::{seconds, Times, Way, WAYS};
 /// How many changes are timed together.
 const TOGETHER: usize = 16;
 
-/// A change at an index, as bytes, and what it moves.
+/// A change at an index, as a call and as bytes, and what it moves.
 struct Change {
     index: usize,
+    call: Call,
     input: Vec<u8>,
     moves: fn(&mut Rows, usize, &[u8], &mut [u8]),
 }
 
 impl Change {
+    fn new(index: usize, call: Call, moves: fn(&mut Rows, usize, &[u8], &mut [u8])) -> Change {
+        Change { index, call, input: call_bytes(call), moves }
+    }
+
     fn put(index: usize) -> Change {
         let event = Event::Note { place: 30, alteration: 3, length: 48 };
-        Change { index, input: call_bytes(Call::Put(0, index as u32, event)), moves: Rows::put }
+        Change::new(index, Call::Put(0, index as u32, event), Rows::put)
     }
 
     fn cut(index: usize) -> Change {
-        Change { index, input: call_bytes(Call::Cut(0, index as u32)), moves: Rows::cut }
+        Change::new(index, Call::Cut(0, index as u32), Rows::cut)
     }
 
     fn other(index: usize, event: Event) -> Change {
-        Change { index, input: call_bytes(Call::Change(0, index as u32, event)), moves: Rows::change }
+        Change::new(index, Call::Change(0, index as u32, event), Rows::change)
     }
 }
 
@@ -43,6 +49,7 @@ struct Copies {
     words: Vec<Vec<u32>>,
     bytes: Vec<u8>,
     scores: Vec<Score>,
+    bare: Vec<Bare>,
     rows: Vec<Rows>,
 }
 
@@ -62,24 +69,27 @@ impl Copies {
         let copies = TOGETHER / in_a_row(events);
         let (words, bytes) = piece::engraved(&piece::score(1, events));
         let scores = (0..copies).map(|_| piece::score(1, events)).collect();
-        Copies { words: vec![words; copies], bytes, scores, rows: vec![Rows::new(events); copies] }
+        let bare = vec![Bare::new(&piece::score(1, events)); copies];
+        Copies { words: vec![words; copies], bytes, scores, bare, rows: vec![Rows::new(events); copies] }
     }
 
     /// How long one of the changes takes, if all are made to each copy.
     fn make(&mut self, way: Way, changes: &[Change]) -> f64 {
-        let Copies { words, bytes, scores, rows } = self;
+        let Copies { words, bytes, scores, bare, rows } = self;
         let time = match way {
             Way::Engraver => make_all(words, changes, |w, c| assert_eq!(library::call(w, bytes, &c.input), 1)),
             Way::Anew => make_all(scores, changes, |s, c| assert_eq!(s.answer(&c.input).1, 1)),
+            Way::Bare => make_all(bare, changes, |b, c| b.make(c.call)),
             Way::Limit => make_all(rows, changes, |r, c| (c.moves)(r, c.index, &c.input, bytes)),
         };
         time / (changes.len() * words.len()) as f64
     }
 
-    /// The engraver's voices are as long as the others.
+    /// The engraver's voices are as long as the others, and what is kept with the bare rows is what is derived of the whole score.
     fn compare(&mut self) {
         let input = call_bytes(Call::HowLong(0));
         let answer = self.scores[0].answer(&input).0;
+        assert!(self.bare.iter().zip(&self.scores).all(|(bare, score)| *bare == Bare::new(score)));
         for words in &mut self.words {
             assert_eq!(library::call(words, &mut self.bytes, &input), answer.len() as i64);
             assert_eq!(self.bytes[..answer.len()], answer);

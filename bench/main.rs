@@ -1,5 +1,6 @@
-//! Measures calls of the engraver's static library beside an independent implementation that does everything anew, and beside the least that each call
-//! costs. Prints a table in Markdown with the goals that are met and those that are not.
+//! Measures calls of the engraver's static library beside an independent implementation that does everything anew, beside the bare work of each call, and
+//! beside the least that it costs. Prints a table in Markdown with the goals that are met and those that are not.
+mod bare;
 mod changes;
 #[path = "../tests/driver/library.rs"]
 mod library;

@@ -1,6 +1,7 @@
 //! Questions: what is printed of one voice, and what is heard of all.
 use std::hint::black_box;
 
+use crate::bare::Bare;
 use crate::library;
 use crate::limit;
 use crate::model::{call_bytes, Call};
@@ -33,13 +34,18 @@ fn ask(rounds: usize, voices: usize, events: usize, what: &'static str, call: Ca
     let answer = score.answer(&input).0;
     assert_eq!(library::call(&mut words, &mut bytes, &input), answer.len() as i64);
     assert_eq!(bytes[..answer.len()], answer);
-    let mut copied = vec![0; answer.len()];
+    let bare_score = Bare::new(&score);
+    let (mut copied, mut written) = (vec![0; answer.len()], vec![0; answer.len() + 24]);
+    let items = bare_score.answer(call, &mut written);
+    assert_eq!((items as u32).to_le_bytes(), answer[1..5]);
+    assert_eq!(written[..answer.len() - 5], answer[5..]);
     let mut engraver = || assert_eq!(library::call(&mut words, &mut bytes, black_box(&input)), answer.len() as i64);
     let mut anew = || assert_eq!(score.answer(black_box(&input)).1, answer.len() as i64);
+    let mut bare = || assert_eq!(bare_score.answer(black_box(call), &mut written), items);
     let mut limit = || limit::write(black_box(&input), black_box(&answer), black_box(&mut copied));
     let mut times = Times::default();
-    let mut asked: [&mut dyn FnMut(); 3] = [&mut engraver, &mut anew, &mut limit];
-    let runs = [0, 1, 2].map(|way| enough(asked[way]));
+    let mut asked: [&mut dyn FnMut(); 4] = [&mut engraver, &mut anew, &mut bare, &mut limit];
+    let runs = [0, 1, 2, 3].map(|way| enough(asked[way]));
     for _ in 0..rounds {
         for way in WAYS {
             asked[way as usize]();

@@ -11,7 +11,7 @@ pub enum Kind {
     Asking,
 }
 
-/// One call on so many events, in seconds: the engraver, the implementation that does everything anew, and the limit.
+/// One call on so many events, in seconds: the engraver, the implementation that does everything anew, the bare work, and the limit.
 #[derive(Clone, Copy)]
 pub struct Row {
     pub what: &'static str,
@@ -19,17 +19,18 @@ pub struct Row {
     pub events: usize,
     pub engraver: f64,
     pub anew: f64,
+    pub bare: f64,
     pub limit: f64,
 }
 
 const LARGEST: usize = 65536;
 
 impl Row {
-    /// What is missed of the row's goals.
-    fn missed(&self) -> Vec<String> {
+    /// What is missed of the row's goals by what takes so long.
+    fn missed(&self, time: f64) -> Vec<String> {
         let mut missed = Vec::new();
         let faster = if self.kind == Kind::Asking && self.events == LARGEST { 100.0 } else { 1.0 };
-        if self.anew / self.engraver < faster {
+        if self.anew / time < faster {
             missed.push(if faster == 1.0 { "slower than anew".to_string() } else { format!("not {faster} times faster than anew") });
         }
         let within = match self.kind {
@@ -37,7 +38,7 @@ impl Row {
             Kind::Changing => f64::INFINITY,
             Kind::Asking => 8.0,
         };
-        if self.engraver / self.limit > within {
+        if time / self.limit > within {
             missed.push(format!("more than {within} times the limit"));
         }
         missed
@@ -53,6 +54,10 @@ fn time(seconds: f64) -> String {
         _ if ns < 1e6 => format!("{:.0} µs", ns / 1e3),
         _ => format!("{:.1} ms", ns / 1e6),
     }
+}
+
+fn verdict(missed: &[String]) -> String {
+    if missed.is_empty() { "met".to_string() } else { format!("missed: {}", missed.join("; ")) }
 }
 
 fn ratio(x: f64) -> String {
@@ -78,13 +83,13 @@ fn goal(what: &str, found: f64, most: f64) {
 
 pub fn print(rows: &[Row], rounds: usize) {
     println!("{}; medians of {rounds} rounds, buffers warm.\n", machine());
-    println!("| Call | Events | Engraver | Anew | Limit | Anew / engraver | Engraver / limit | Goal |");
-    println!("|---|--:|--:|--:|--:|--:|--:|---|");
+    println!("| Call | Events | Engraver | Anew | Bare | Limit | Anew / engraver | Engraver / bare | Engraver / limit | Goal | The bare work |");
+    println!("|---|--:|--:|--:|--:|--:|--:|--:|--:|---|---|");
     for r in rows {
-        let missed = r.missed();
-        let verdict = if missed.is_empty() { "met".to_string() } else { format!("missed: {}", missed.join("; ")) };
-        let (faster, within) = (ratio(r.anew / r.engraver), ratio(r.engraver / r.limit));
-        println!("| {} | {} | {} | {} | {} | {faster} | {within} | {verdict} |", r.what, r.events, time(r.engraver), time(r.anew), time(r.limit));
+        let [verdict, bare] = [r.engraver, r.bare].map(|t| verdict(&r.missed(t)));
+        let ratios = [r.anew / r.engraver, r.engraver / r.bare, r.engraver / r.limit].map(ratio).join(" | ");
+        let times = [r.engraver, r.anew, r.bare, r.limit].map(time).join(" | ");
+        println!("| {} | {} | {times} | {ratios} | {verdict} | {bare} |", r.what, r.events);
     }
     println!();
     let (last, first) = (find(rows, "show 16 bars, the last", LARGEST), find(rows, "show 16 bars, the first", LARGEST));
@@ -93,6 +98,6 @@ pub fn print(rows: &[Row], rounds: usize) {
     goal("change as long in the middle, at 65,536 events / at 64", find(rows, change, LARGEST).engraver / find(rows, change, 64).engraver, 3.0);
     let front = find(rows, "put at the front", LARGEST);
     goal("put at the front / memmove, at 65,536 events", front.engraver / front.limit, 4.0);
-    let met = rows.iter().filter(|r| r.missed().is_empty()).count();
-    println!("\n{met} of {} rows meet their goals.", rows.len());
+    let met = |time: fn(&Row) -> f64| rows.iter().filter(|r| r.missed(time(r)).is_empty()).count();
+    println!("\n{} of {} rows meet their goals; {} would if a call were only its bare work.", met(|r| r.engraver), rows.len(), met(|r| r.bare));
 }

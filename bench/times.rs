@@ -3,19 +3,20 @@ use std::time::Instant;
 
 use crate::table::{Kind, Row};
 
-/// Three ways of doing the same.
+/// Four ways of doing the same.
 #[derive(Clone, Copy)]
 pub enum Way {
     Engraver,
     Anew,
+    Bare,
     Limit,
 }
 
-pub const WAYS: [Way; 3] = [Way::Engraver, Way::Anew, Way::Limit];
+pub const WAYS: [Way; 4] = [Way::Engraver, Way::Anew, Way::Bare, Way::Limit];
 
 /// What was measured in each round, for each way.
 #[derive(Default)]
-pub struct Times([Vec<f64>; 3]);
+pub struct Times([Vec<f64>; 4]);
 
 impl Times {
     pub fn add(&mut self, way: Way, time: f64) {
@@ -23,8 +24,8 @@ impl Times {
     }
 
     pub fn row(self, what: &'static str, kind: Kind, events: usize) -> Row {
-        let [engraver, anew, limit] = self.0.map(median);
-        Row { what, kind, events, engraver, anew, limit }
+        let [engraver, anew, bare, limit] = self.0.map(median);
+        Row { what, kind, events, engraver, anew, bare, limit }
     }
 }
 
