@@ -61,9 +61,7 @@ pub fn begin_bar(signature: u32, holds: &mut Holds)
     let steps = alter_steps(signature);
     // octave by octave: to ask each place for its step, which is a division, takes ten times as long
     for octave in 0..PLACES / 7 {
-        for (step, altered) in steps.iter().enumerate() {
-            holds[7 * octave + step] = *altered;
-        }
+        holds[7 * octave..7 * octave + 7].copy_from_slice(&steps);
     }
 }
 

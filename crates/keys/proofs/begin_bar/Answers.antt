@@ -1,7 +1,8 @@
--- The key holds at one place more, and at last at all of them.
-use Rattle.std.proofs.Common.{◌≡◌, ℕ, ◌+◌, ◌*◌, ◌<◌, ◌≤◌, ◌⊎◌, get_or, set, sym, ap, ◌∙◌, inl, inr, arith, get_or-set_other, get_or-set_same}
+-- The key holds in one octave more, and at last in all of them.
+use Rattle.std.proofs.Common.{◌≡◌, ℕ, ◌+◌, ◌-◌, ◌*◌, ◌<◌, ◌≤◌, ◌⊎◌, List, ◌++◌, length, get_or, take, drop, ap, ◌∙◌, inl, inr, arith}
+use borrow.Rule.Slice.PartMut.{put_mid, same_len_mid}
+use Rattle.std.proofs.lemmas.List.{length-take, length-drop, get_or-take, get_or_append_left, get_or-append_right}
 use Rattle.std.proofs.lemmas.List.FromFn.{fill_by_all}
-use Rattle.std.proofs.lemmas.List.{length-set}
 use Rattle.std.proofs.lemmas.Bool.{cases_lt}
 use Rattle.score.specs.Music.{places}
 use Rattle.score.specs.Print.{key}
@@ -9,24 +10,37 @@ use Rattle.keys.specs.Held.{key_row}
 use Rattle.keys.proofs.Order.{key_octave}
 use Rattle.keys.proofs.begin_bar.Goals as goal
 
-pub loop-step-preserved : goal.loop-step-preserved
-loop-step-preserved c = ((λ q lt. go q lt (cases_lt q at)), length-set c.loop-step.holds at x ∙ c.loop-step.invariant.1)
+pub loop-octave-preserved : goal.loop-octave-preserved
+loop-octave-preserved c = ((λ q lt. go q lt (cases_lt q n)), same_len_mid n k ws ys c.copy_from_slice.ensures.len ∙ c.loop-octave.invariant.1)
   where
-    at : ℕ
-    at = 7 * c.loop-octave.octave + c.loop-step.step
+    n : ℕ
+    n = 7 * c.loop-octave.octave
 
-    x : ℕ
-    x = get_or c.alter_steps-steps.result c.loop-step.step 0
+    k : ℕ
+    k = n + 7 - n
 
-    -- the step that is written
-    here : x ≡ key c.args.signature at
-    here = c.alter_steps-steps.ensures c.loop-step.step (omega arith) ∙ key_octave c.args.signature c.loop-octave.octave c.loop-step.step (omega arith)
+    ws : List ℕ
+    ws = c.loop-octave.holds
 
-    go : (q : ℕ) → q < 7 * c.loop-octave.octave + (c.loop-step.step + 1) → (q < at) ⊎ (at ≤ q) → get_or (set c.loop-step.holds at x) q 0 ≡ key c.args.signature q
-    go q lt (inl l) = get_or-set_other c.loop-step.holds at q x 0 (omega arith) ∙ c.loop-step.invariant.0 q l
+    -- the octave's seven places as they are written
+    ys : List ℕ
+    ys = c.copy_from_slice.new.self
+
+    seven : length ys ≡ 7
+    seven = omega (arith, c.copy_from_slice.ensures.len, length-take k (drop n ws), length-drop n ws, c.loop-octave.invariant.1)
+
+    before : length (take n ws) ≡ n
+    before = omega (arith, length-take n ws, c.loop-octave.invariant.1)
+
+    go : (q : ℕ) → q < 7 * (c.loop-octave.octave + 1) → (q < n) ⊎ (n ≤ q) → get_or (put_mid n k ws ys) q 0 ≡ key c.args.signature q
+    go q lt (inl l) = get_or_append_left (take n ws) (ys ++ drop k (drop n ws)) 0 q (omega (arith, before)) ∙ (get_or-take n ws q 0 l ∙ c.loop-octave.invariant.0 q l)
     go q lt (inr l) =
-        let e : at ≡ q = omega arith in
-        ap (λ i. get_or (set c.loop-step.holds at x) i 0) (sym e) ∙ (get_or-set_same c.loop-step.holds at x 0 (omega (arith, c.loop-step.invariant.1)) ∙ (here ∙ ap (key c.args.signature) e))
+        let step : q - n < 7 = omega (arith, lt, l) in
+        let here : n + (q - n) ≡ q = omega (arith, l) in
+        get_or-append_right (take n ws) (ys ++ drop k (drop n ws)) n q 0 before l
+        ∙ (get_or_append_left ys (drop k (drop n ws)) 0 (q - n) (omega (arith, seven, step))
+        ∙ (ap (λ xs. get_or xs (q - n) 0) c.copy_from_slice.ensures.after
+        ∙ (c.alter_steps-steps.ensures (q - n) step ∙ (key_octave c.args.signature c.loop-octave.octave (q - n) step ∙ ap (key c.args.signature) here))))
 
 pub returns : goal.returns
 unfolding key_row
