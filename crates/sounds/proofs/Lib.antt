@@ -1,11 +1,12 @@
 pub mod Mixed
 pub mod Bits
-pub mod Slots
+pub mod Begun
 pub mod Turns
 pub mod Parts
 pub mod Walks
 pub mod Turned
 pub mod Writing
+pub mod Used
 pub mod Passing
 pub mod Marked
 pub mod Search

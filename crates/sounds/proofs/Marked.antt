@@ -1,6 +1,6 @@
 -- The slots and cursors of the voices that have been marked, one voice after the other. Assumes nothing.
-use Rattle.std.proofs.Common.{◌≡◌, ℕ, zero, suc, ◌+◌, ◌-◌, ◌*◌, ◌%◌, ◌<◌, ◌≤◌, true, List, [], ◌∷◌, ◌++◌, map, length, get_or, take, drop, set, replicate, sum, sym, ap, ◌∙◌, subst, inl, inr, zero-add, arith}
-use Rattle.std.proofs.lemmas.List.{get_or-replicate, length-replicate, get_or_past, get_or-set_same, get_or-set_other, length-drop, take-map}
+use Rattle.std.proofs.Common.{◌≡◌, ℕ, zero, suc, ◌+◌, ◌-◌, ◌*◌, ◌%◌, ◌<◌, ◌≤◌, true, List, [], ◌∷◌, ◌++◌, map, length, get_or, take, drop, set, sum, sym, ap, ◌∙◌, subst, inl, inr, zero-add, arith}
+use Rattle.std.proofs.lemmas.List.{get_or-set_same, get_or-set_other, length-drop, take-map}
 use Rattle.std.proofs.lemmas.Bool.{cases_eq, cases_lt}
 use Rattle.score.specs.Music.{Event, lasts, heard, total, all_fine}
 use Rattle.score.specs.Calls.{Score, ticks_end, voice, begins, together}
@@ -10,7 +10,7 @@ use Rattle.memory.proofs.Scores.{fines_voice, fine_parts, short_voice}
 use Rattle.std.specs.Int.{bit_at}
 use Rattle.sounds.specs.Spans.{from_event, until, starts, mixed, passed, note_ticks, ticks_from, grain, begun, marks, score_in, Laid, part, left, Ready, all_left}
 use Rattle.std.proofs.lemmas.Nat.Bits.{bit_at-zero, bit_at-lt}
-use Rattle.sounds.proofs.Slots.{Free, Rising, begun_none, marks_other, marks_same}
+use Rattle.sounds.proofs.Begun.{Free, Rising, begun_none, marks_other, marks_same}
 use Rattle.sounds.proofs.Walks.{ticks_no_lengths}
 use Rattle.sounds.proofs.Turns.{begun_later, begun_here}
 use Rattle.sounds.proofs.Mixed.{mixed_same, together_mixed}
@@ -100,7 +100,7 @@ module _ (ns ps xs ds : List ℕ) (laid : Laid ns ps xs ds) (k : ℕ) where
             no_ticks : length (own ds) ≤ r → Ticks ≡ []
             no_ticks l = ticks_no_lengths E tick (drop r (own ps)) (drop r (own ds)) (simp length-drop (omega arith))
 
-        module _ (ends : E ≡ grain * (first + length ms)) (room : length ns ≤ length cursors) (before : Marked ns ps xs ds first E cursors ms k) where
+        module _ (ends : E ≤ grain * (first + length ms)) (room : length ns ≤ length cursors) (before : Marked ns ps xs ds first E cursors ms k) where
           abbrev Then : List ℕ
           Then = marks k first Ticks ms
 
@@ -122,7 +122,7 @@ module _ (ns ps xs ds : List ℕ) (laid : Laid ns ps xs ds) (k : ℕ) where
           own_slots =
               let none = before.free k (omega arith) in
               let zeroth : grain * first ≡ grain * (first + 0) = omega arith in
-              marks_same k first 0 Ticks ms (begun_free k (grain * first) ms none) (subst (λ (n : ℕ). Rising n (grain * (first + length ms)) Ticks) zeroth (subst (λ (n : ℕ). Rising (grain * first) n Ticks) ends ticks_rise))
+              marks_same k first 0 E Ticks ms (begun_free k (grain * first) ms none) ends (subst (λ (n : ℕ). Rising n E Ticks) zeroth ticks_rise)
               ∙ ap (λ (ts : List ℕ). ts ++ Ticks) none
 
           -- what holds of voice k, and of those before it, holds of all
@@ -146,34 +146,27 @@ module _ (ns ps xs ds : List ℕ) (laid : Laid ns ps xs ds) (k : ℕ) where
             free = λ u l. marks_other k first u (grain * first) Ticks ms (λ q. omega arith) ∙ before.free u (omega arith);
           }
 
--- the same of the slots as the code has them, of which there are n
+-- the same of the slots as the code has them, which end at tick e
 pub marked_step :
-    {ns ps xs ds : List ℕ} {first n : ℕ} {cursors ms : List ℕ} {k begin : ℕ} (r : ℕ) (slots : List ℕ) → Laid ns ps xs ds → k < length ns → begin ≡ sum (take k ns)
-    → length ns ≤ length cursors → length ms ≡ n → Marked ns ps xs ds first (grain * (first + n)) cursors ms k
+    {ns ps xs ds : List ℕ} {first e : ℕ} {cursors ms : List ℕ} {k begin : ℕ} (r : ℕ) (slots : List ℕ) → Laid ns ps xs ds → k < length ns → begin ≡ sum (take k ns)
+    → length ns ≤ length cursors → e ≤ grain * (first + length ms) → Marked ns ps xs ds first e cursors ms k
     → r ≡ passed (grain * first) 0 (part ns k ds)
     → (r < get_or ns k 0 → grain * first ≤ sum (take r (part ns k ds)))
-    → slots ≡ marks k first (ticks_from (grain * (first + length ms)) (part ns k ps) (part ns k ds) r) ms
-    → Marked ns ps xs ds first (grain * (first + n)) (set cursors k (begin + r)) slots (k + 1)
-marked_step {ns} {ps} {xs} {ds} {first} {n} {cursors} {ms} {k} {begin} r slots laid there begins_at room long before passes reaches done =
-    let ends : grain * (first + n) ≡ grain * (first + length ms) = ap (λ (i : ℕ). grain * (first + i)) (sym long) in
+    → slots ≡ marks k first (ticks_from e (part ns k ps) (part ns k ds) r) ms
+    → Marked ns ps xs ds first e (set cursors k (begin + r)) slots (k + 1)
+marked_step {ns} {ps} {xs} {ds} {first} {e} {cursors} {ms} {k} {begin} r slots laid there begins_at room ends before passes reaches done =
     let many = part_long ns k ds there (omega (arith, laid.fitting, laid.lengths_too)) in
-    rw (done, ← ends) (marked_more ns ps xs ds laid k first (grain * (first + n)) cursors ms begin there begins_at r passes (λ l. reaches (omega (arith, many))) ends room before)
+    rw done (marked_more ns ps xs ds laid k first e cursors ms begin there begins_at r passes (λ l. reaches (omega (arith, many))) ends room before)
 
 -- ---- before the first voice, and after the last
 
-pub marked_none : (ns ps xs ds : List ℕ) (first e n : ℕ) (cursors : List ℕ) → Marked ns ps xs ds first e cursors (replicate n 0) 0
-marked_none ns ps xs ds first e n cursors = record {
+pub marked_none : (ns ps xs ds : List ℕ) (first e : ℕ) (cursors ms : List ℕ) → ((j : ℕ) → get_or ms j 0 ≡ 0) → Marked ns ps xs ds first e cursors ms 0
+marked_none ns ps xs ds first e cursors ms empty = record {
   whole = λ u l. absurd (omega arith);
   told = λ u l. absurd (omega arith);
   reached = λ u l. absurd (omega arith);
-  free = λ u l. begun_none u (grain * first) (replicate n 0) (λ j q. ap (λ (i : ℕ). bit_at i u) (zero_at j) ∙ bit_at-zero u);
+  free = λ u l. begun_none u (grain * first) ms (λ j q. ap (λ (i : ℕ). bit_at i u) (empty j) ∙ bit_at-zero u);
 }
-  where
-    zero_at : (j : ℕ) → get_or {A = ℕ} (replicate n 0) j 0 ≡ 0
-    zero_at j = elim (cases_lt j n) [
-      | inl l ↦ get_or-replicate {A = ℕ} n j 0 0 l
-      | inr l ↦ get_or_past (replicate {A = ℕ} n 0) j 0 (omega (arith, l, length-replicate {A = ℕ} n 0))
-    ]
 
 module _ (ns ps xs ds : List ℕ) (first e : ℕ) (cursors ms : List ℕ) (all : Marked ns ps xs ds first e cursors ms (length ns)) where
   abbrev S : Score

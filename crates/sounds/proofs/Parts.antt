@@ -13,7 +13,7 @@ use Rattle.laws.proofs.Rows.{lasts_words}
 use Rattle.memory.proofs.Scores.{fine_fields, fine_place}
 use Rattle.memory.specs.Store.{dealt}
 use Rattle.sounds.specs.Spans.{Row, from_event, until, starts, grain, passed, note_ticks, silences, sound_at, score_in, part, left}
-use Rattle.sounds.proofs.Slots.{Rising}
+use Rattle.sounds.proofs.Begun.{Rising}
 
 -- ---- parts of rows
 

@@ -1,6 +1,6 @@
 -- The score in lent words is the one in their rows; and a span of ticks is one of slots. Assumes nothing.
-use Rattle.std.proofs.Common.{◌≡◌, ℕ, ◌+◌, ◌-◌, ◌*◌, ◌<◌, ◌≤◌, true, List, map, length, get_or, take, drop, sum, replicate, sym, refl, ap, ap₂, ◌∙◌, subst, arith}
-use Rattle.std.proofs.lemmas.List.{drop-drop, length-take, length-take-le, length-drop, length-map, length-replicate, get_or-take, get_or-drop, take-map, take-take, take-replicate}
+use Rattle.std.proofs.Common.{◌≡◌, ℕ, ◌+◌, ◌-◌, ◌*◌, ◌<◌, ◌≤◌, true, List, map, length, get_or, take, drop, sum, sym, refl, ap, ap₂, ◌∙◌, subst, arith}
+use Rattle.std.proofs.lemmas.List.{drop-drop, length-take, length-take-le, length-drop, length-map, get_or-take, get_or-drop, take-map, take-take}
 use Rattle.std.proofs.lemmas.List.Sorted.{IsNonDecreasingBy-from_default}
 use Rattle.score.specs.Music.{Event, lasts}
 use Rattle.score.specs.Calls.{Score, voice, none_too_long, together}
@@ -147,13 +147,6 @@ together_slots s a b f =
     ∙ mixed_same _ _ (length s) 0 (λ u _. begins_slots u a b 0 (voice s u) (fines_voice s u f) refl)
     ∙ sym (together_mixed s (grain * up a) (grain * (up a + (up b - up a))))
 
--- of empty slots, the first n
-pub slots_many : (n m : ℕ) → n ≤ m → length (take n (replicate {A = ℕ} m 0)) ≡ n
-slots_many n m h = length-take-le n (replicate {A = ℕ} m 0) (omega (arith, h, length-replicate {A = ℕ} m 0))
-
-pub slots_empty : (n m : ℕ) → n ≤ m → take n (replicate {A = ℕ} m 0) ≡ replicate (length (take n (replicate {A = ℕ} m 0))) 0
-slots_empty n m h = take-replicate {X = ℕ} n m 0 h ∙ ap (λ (k : ℕ). replicate k 0) (sym (slots_many n m h))
-
 -- what is heard in a span of ticks, and in the slots that the code takes for it
-pub span_heard : (s : Score) (a b first n k : ℕ) → all_fines s ≡ true → first ≡ up a → n ≡ up b - first → k ≡ n → together s 0 (grain * first) (grain * (first + k)) ≡ together s 0 a b
-span_heard s a b first n k h f g q = let m : k ≡ up b - up a = omega arith in rw (m, f) (sym (together_slots s a b h))
+pub span_heard : (s : Score) (a b first n : ℕ) → all_fines s ≡ true → first ≡ up a → n ≡ up b - up a → together s 0 (grain * first) (grain * (first + n)) ≡ together s 0 a b
+span_heard s a b first n h f g = rw (f, g) (sym (together_slots s a b h))

@@ -1,5 +1,5 @@
 -- What is heard of all voices in a span: rows of notes, and slots that say which voices begin a note there. Assumes nothing: these are definitions.
-use Rattle.std.specs.Prelude.{◌≡◌, ℕ, zero, suc, ◌+◌, ◌-◌, ◌*◌, ◌/◌, ◌^◌, ◌<◌, ◌≤◌, true, List, [], ◌∷◌, map, length, take, drop, sum, ◌==◌, bit_or, nat_lt, slice_index, slice_set}
+use Rattle.std.specs.Prelude.{◌≡◌, ◌≢◌, ℕ, zero, suc, ◌+◌, ◌-◌, ◌*◌, ◌/◌, ◌%◌, ◌^◌, ◌<◌, ◌≤◌, true, List, [], ◌∷◌, map, length, take, drop, sum, ◌==◌, bit_or, nat_lt, slice_index, slice_set}
 use Rattle.std.specs.Int.{bit_at}
 use Rattle.std.specs.List.{prefix_len}
 use Rattle.std.specs.List.Sorted.{IsNonDecreasing}
@@ -102,6 +102,26 @@ begun u t (m ∷ ms) = pick (bit_at m u == 1) (t ∷ begun u (t + grain) ms) (be
 unfoldable pub marks : ℕ → ℕ → List ℕ → List ℕ → List ℕ
 marks u first [] ms = ms
 marks u first (t ∷ ts) ms = let k : ℕ = t / grain - first in marks u first ts (slice_set ms k (bit_or (slice_index ms k) (2 ^ u)))
+
+-- in slots from i up to before j no voice begins a note
+abbrev pub NoneBetween : ℕ → ℕ → List ℕ → Type 0
+NoneBetween i j ms = (k : ℕ) → i ≤ k → k < j → slice_index ms k ≡ 0
+
+-- of n slots, k is the first from i on in which a voice does
+pub record NextUsed (i n : ℕ) (ms : List ℕ) (k : ℕ) : Type 0 where
+  pub behind : i ≤ k
+  pub there : k < n
+  pub filled : slice_index ms k ≢ 0
+  pub before : NoneBetween i k ms
+
+-- the bit of slot k in words that have one for each slot
+abbrev pub bit_of : List ℕ → ℕ → ℕ
+bit_of ws k = bit_at (slice_index ws (k / 64)) (k % 64)
+
+-- they tell in which of n slots a voice begins a note
+pub record Tells (n : ℕ) (ws ms : List ℕ) : Type 0 where
+  pub empty : (k : ℕ) → bit_of ws k ≡ 0 → slice_index ms k ≡ 0
+  pub filled : (k : ℕ) → bit_of ws k ≡ 1 → (k < n) × (slice_index ms k ≢ 0)
 
 -- ---- a score in four rows of words: how many events each voice has, and the events of all voices in three rows
 

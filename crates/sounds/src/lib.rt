@@ -3,16 +3,17 @@
 //! The contract of `heard_in` cites `together`, the definition of which crate `laws` proves that it is in order and that nothing of any voice is lost.
 #![tactic(auto)]
 
-ghost use Rattle.std.specs.Prelude.{◌≡◌, ◌+◌, ◌*◌, ◌^◌, ◌<◌, ◌≤◌, ◌++◌, length, drop, sum, MatchOption};
+ghost use Rattle.std.specs.Prelude.{◌≡◌, ◌+◌, ◌*◌, ◌<◌, ◌≤◌, ◌++◌, length, drop, MatchOption};
 ghost use Rattle.score.specs.Music.{places, alterations, length_end};
 ghost use Rattle.score.specs.Meaning.{sound_meant};
 ghost use Rattle.score.specs.Calls.{widest_span, together};
 ghost use Rattle.wire.specs.Bytes.{sound_bytes, sounds_bytes};
 ghost use Rattle.memory.specs.Store.{limit_in, score_of};
-ghost use Rattle.sounds.specs.Spans.{note_ticks, InOrder, AllBefore, Reached, silences, grain, marks};
+ghost use Rattle.sounds.specs.Spans.{InOrder, AllBefore, Reached, silences};
 ghost use Rattle.sounds.specs.Rows.{heard_at};
 
 mod single;
+mod slots;
 mod together;
 
 use keys::tone;
@@ -56,29 +57,6 @@ fn reach(bars: &[u32], ticks: &[u32], measure: usize, from: usize) -> Option<(us
         }
     }
     None
-}
-
-/// Sets a voice's bit in the slots in which its notes begin, from a tick on up to the end of the slots.
-// `slots` and `first` are no struct: it would hold a `&mut`, and each contract would say besides that it lends the same slots still; and `places` and `lengths`
-// are no `Rows`, since alterations are not looked at (no plainer)
-fn mark(places: &[u32], lengths: &[u32], voice: u32, start: usize, first: usize, slots: &mut [u64])
-    requires rows { length places.now ≡ length lengths.now }
-    requires voice { voice < 64 }
-    requires short { start + sum lengths.now < 2 ^ 32 }
-    requires begun { grain * first ≤ start }
-    ensures { slots.new ≡ marks voice first (note_ticks (grain * (first + length slots.old)) start places.now lengths.now) slots.old }
-{
-    let mut tick = start;
-    for (place, length) in places.iter().zip(lengths) {
-        let slot = tick / GRAIN - first;
-        if slot >= slots.len() {
-            return;
-        }
-        if *place != SILENT {
-            slots[slot] |= 1 << voice;
-        }
-        tick += *length as usize;
-    }
 }
 
 /// How many silences come first.

@@ -1,18 +1,16 @@
 //! All voices of a score together.
-ghost use Rattle.std.specs.Prelude.{◌≡◌, ◌+◌, ◌*◌, ◌^◌, ◌<◌, ◌≤◌, ◌++◌, length, take, drop, replicate, sum, slice_index};
+ghost use Rattle.std.specs.Prelude.{◌≡◌, ℕ, ◌+◌, ◌*◌, ◌<◌, ◌≤◌, ◌++◌, length, take, drop, sum, slice_index};
 ghost use Rattle.score.specs.Calls.{all_events, widest_span, together};
 ghost use Rattle.wire.specs.Bytes.{sounds_bytes};
 ghost use Rattle.memory.specs.Store.{score_of};
-ghost use Rattle.sounds.specs.Spans.{grain, silences, Laid, AllTimed, Ready};
+ghost use Rattle.sounds.specs.Spans.{grain, silences, Laid, AllTimed};
 
-use super::{GRAIN, mark, reach, silences_first, sound_of};
+use super::slots::Slots;
+use super::{reach, silences_first, sound_of};
 use rows::{Onsets, Row, Rows};
-use score::{MOST_VOICES, Sound, WIDEST_SPAN};
+use score::{MOST_VOICES, Sound};
 use voices::{Span, Stored};
 use wire::Item;
-
-/// The widest span has so many slots, one for each tick at which a note may begin.
-const MOST_SLOTS: usize = WIDEST_SPAN as usize / GRAIN;
 
 /// There are as many cursors as there may be voices.
 const CURSORS: usize = MOST_VOICES as usize;
@@ -51,40 +49,39 @@ impl<'a> From<Stored<'a>> for Voices<'a> {
 
 impl Voices<'_> {
     ghost use Rattle.rows.specs.Rows.{row_at};
-    ghost use Rattle.sounds.specs.Spans.{passed, ticks_from, part, marks};
-    ghost use Rattle.sounds.specs.Scores.{score_in, all_left, IsMarked};
+    ghost use Rattle.sounds.specs.Spans.{passed, ticks_from, part};
+    ghost use Rattle.sounds.specs.Scores.{score_in, end_of, all_left, Marks, IsMarked};
 
     /// Sets a voice's bit in the slots in which it begins notes; its events lie in a span. Returns how many of them begin before the first slot.
-    fn mark_voice(self, voice: usize, span: Span, first: usize, slots: &mut [u64]) -> usize
+    fn mark_voice(self, voice: usize, span: Span, slots: &mut Slots) -> usize
         requires there { voice < length self.counts.now }
         requires begin { span.begin ≡ sum (take voice self.counts.now) }
         requires count { span.count ≡ slice_index self.counts.now voice }
-        requires small { grain * first < 2 ^ 32 }
-        ensures index { result ≡ passed (grain * first) 0 (part self.entry.counts.now voice self.entry.rows.lengths.now) }
-        ensures marked { slots.new ≡ marks voice first (ticks_from (grain * (first + length slots.old)) (part self.entry.counts.now voice self.entry.rows.places.now) (part self.entry.counts.now voice self.entry.rows.lengths.now) result) slots.old }
+        ensures index { result ≡ passed (grain * slots.old.first) 0 (part self.entry.counts.now voice self.entry.rows.lengths.now) }
+        ensures marked { Marks voice (ticks_from (end_of slots.old) (part self.entry.counts.now voice self.entry.rows.places.now) (part self.entry.counts.now voice self.entry.rows.lengths.now) result) slots.old slots.new }
         ensures inside { result ≤ span.count }
-        ensures reached { result < span.count → grain * first ≤ sum (take result (part self.entry.counts.now voice self.entry.rows.lengths.now)) }
+        ensures reached { result < span.count → grain * slots.old.first ≤ sum (take result (part self.entry.counts.now voice self.entry.rows.lengths.now)) }
     {
         let end = span.begin + span.count;
         let bars = &self.onsets.bars[span.begin..end];
         let ticks = &self.onsets.ticks[span.begin..end];
-        let Some((passed, tick)) = reach(bars, ticks, self.measure, GRAIN * first) else {
+        let from = slots.tick(0) as usize;
+        let Some((passed, tick)) = reach(bars, ticks, self.measure, from) else {
             return span.count;
         };
         let next = span.begin + passed;
         let places = &self.rows.places[next..end];
         let lengths = &self.rows.lengths[next..end];
-        mark(places, lengths, voice as u32, tick, first, slots);
+        slots.mark(voice as u32, tick, places, lengths);
         passed
     }
 
     /// Sets the bits of all voices in empty slots, where they begin notes. Returns which event comes first in each voice from the first slot on.
     #[tactic(auto, using(crate::proofs::Walks::ticks_more))]
-    fn mark(self, first: usize, slots: &mut [u64]) -> [usize; CURSORS]
-        requires empty { slots.old ≡ replicate (length slots.old) 0 }
-        requires small { grain * (first + length slots.old) < 2 ^ 32 }
-        ensures ready { IsMarked self.entry (grain * (first + length slots.old)) result (grain * first) slots.new }
-        ensures whole { all_left self.entry (grain * (first + length slots.old)) result ≡ together (score_in self.entry) 0 (grain * first) (grain * (first + length slots.old)) }
+    fn mark(self, slots: &mut Slots) -> [usize; CURSORS]
+        requires empty { (k : ℕ) → slice_index slots.old.voices k ≡ 0 }
+        ensures ready { IsMarked self.entry result slots.new }
+        ensures whole { all_left self.entry result slots.new ≡ together (score_in self.entry) 0 (grain * slots.old.first) (end_of slots.old) }
     {
         let mut cursors = [0; CURSORS];
         let mut begin = 0;
@@ -93,7 +90,7 @@ impl Voices<'_> {
                 begin,
                 count: *count as usize,
             };
-            let passed = self.mark_voice(voice, span, first, slots);
+            let passed = self.mark_voice(voice, span, slots);
             // by its index: what is written through a zip with `iter_mut()` is not known in the loop's invariant (tried)
             cursors[voice] = begin + passed;
             begin += span.count;
@@ -118,57 +115,34 @@ impl Voices<'_> {
         ensures wrote { out.new ≡ sounds_bytes (together (score_in self.entry) 0 from to) ++ drop (8 * result) out.old }
         ensures many { result ≡ length (together (score_in self.entry) 0 from to) }
     {
-        let first = (from as usize).div_ceil(GRAIN);
-        let used = (to as usize).div_ceil(GRAIN).saturating_sub(first);
-        let mut empty = [0; MOST_SLOTS];
-        let slots = &mut empty[..used];
-        let cursors = self.mark(first, slots);
-        let marked = Marked {
-            voices: self,
-            first,
-            slots,
-            cursors,
-        };
-        marked.write(out)
+        let mut slots = Slots::of(from, to);
+        let cursors = self.mark(&mut slots);
+        self.write(&slots, cursors, out)
     }
-}
 
-/// What is to be written: voices, slots that tell when they begin notes, the first of which has a number, and which event comes next in each voice.
-#[derive(Drop)]
-struct Marked<'a> {
-    voices: Voices<'a>,
-    first: usize,
-    slots: &'a [u64],
-    cursors: [usize; CURSORS],
-    ghost small: { grain * (first + length slots.now) < 2 ^ 32 },
-    ghost ready: { Ready voices.counts.now voices.rows.places.now voices.rows.alterations.now voices.rows.lengths.now (grain * (first + length slots.now)) cursors (grain * first) slots.now },
-}
-
-impl Marked<'_> {
-    ghost use Rattle.sounds.specs.Scores.{notes_left};
-
-    /// Writes the notes that the slots tell of: slot by slot, and in each the voices in order. Returns how many they are.
-    fn write(self, out: &mut [u8]) -> usize
-        requires { 8 * length (notes_left self) ≤ length out.old }
-        ensures wrote { out.new ≡ sounds_bytes (notes_left self.entry) ++ drop (8 * result) out.old }
-        ensures many { result ≡ length (notes_left self.entry) }
+    /// Writes the notes that slots tell of: slot by slot, and in each the voices in order; a cursor says which event comes next in its voice. Returns how many
+    /// they are.
+    fn write(self, slots: &Slots, mut cursors: [usize; CURSORS], out: &mut [u8]) -> usize
+        requires ready { IsMarked self cursors slots.now }
+        requires room { 8 * length (all_left self cursors slots.now) ≤ length out.old }
+        ensures wrote { out.new ≡ sounds_bytes (all_left self.entry cursors slots.now) ++ drop (8 * result) out.old }
+        ensures many { result ≡ length (all_left self.entry cursors slots.now) }
     {
-        let mut cursors = self.cursors;
         let mut count = 0;
-        let slots = self.slots.iter().enumerate();
-        // most slots are empty, and are passed in a loop of their own: left to the loop over voices, a span of few notes takes half as long again
-        for (index, slot) in slots.filter(|(_, slot)| **slot != 0) {
-            let start = (GRAIN * (self.first + index)) as u32;
-            let mut voices = *slot;
-            while voices != 0 {
+        let mut next = 0;
+        'slots: while let Some(slot) = slots.next_used(next) {
+            let start = slots.tick(slot);
+            let mut voices = slots.voices_in(slot);
+            'voices: while voices != 0 {
                 let voice = voices.trailing_zeros();
                 voices ^= 1 << voice;
-                let (at, row) = self.voices.next_note(cursors[voice as usize]);
+                let (at, row) = self.next_note(cursors[voice as usize]);
                 cursors[voice as usize] = at + 1;
                 sound_of(row, voice as u8, start).write(&mut out[Sound::SIZE * count..]);
                 // notes are written into lent bytes, of which those of `count` notes are taken: there is no heap here
                 count += 1;
             }
+            next = slot + 1;
         }
         count
     }

@@ -67,20 +67,19 @@ in_slot :
     → (k ≤ t / grain - first) × (t / grain - first < n) × (grain * first + grain * (t / grain - first) ≡ t) × (t + grain ≡ grain * (first + suc (t / grain - first)))
 in_slot first k t n lo hi m = (omega arith, omega arith, omega arith, omega arith)
 
+-- among the slots are those of all ticks before e
 pub marks_same :
-    (u first k : ℕ) (ts ms : List ℕ) → Free u k ms → Rising (grain * (first + k)) (grain * (first + length ms)) ts
+    (u first k e : ℕ) (ts ms : List ℕ) → Free u k ms → e ≤ grain * (first + length ms) → Rising (grain * (first + k)) e ts
     → begun u (grain * first) (marks u first ts ms) ≡ begun u (grain * first) ms ++ ts
 unfolding marks Rising
-marks_same u first k [] ms h r = sym (append-nil _)
-marks_same u first k (t ∷ ts) ms h r =
+marks_same u first k e [] ms h l r = sym (append-nil _)
+marks_same u first k e (t ∷ ts) ms h l r =
     let j : ℕ = t / grain - first in
     let w : ℕ = bit_or (get_or ms j 0) (2 ^ u) in
-    let f = in_slot first k t (length ms) r.0 r.1 r.2 in
-    let free : Free u (suc j) (set ms j w) = λ i l. ap (λ (n : ℕ). bit_at n u) (get_or-set_other ms j i w 0 (λ e. omega arith)) ∙ h i (omega (arith, f.0)) in
+    let f = in_slot first k t (length ms) r.0 (omega (arith, r.1)) r.2 in
+    let free : Free u (suc j) (set ms j w) = λ i q. ap (λ (n : ℕ). bit_at n u) (get_or-set_other ms j i w 0 (λ e. omega arith)) ∙ h i (omega (arith, f.0)) in
     let one : begun u (grain * first) (set ms j w) ≡ begun u (grain * first) ms ++ (t ∷ []) =
-    begun_set u (grain * first) j w ms f.1 (λ i l. h i (omega (arith, f.0))) (put_same (get_or ms j 0) u)
+    begun_set u (grain * first) j w ms f.1 (λ i q. h i (omega (arith, f.0))) (put_same (get_or ms j 0) u)
     ∙ ap (λ (n : ℕ). begun u (grain * first) ms ++ (n ∷ [])) f.2 in
-    marks_same u first (suc j) ts (set ms j w) free
-    (subst (λ (n : ℕ). Rising n (grain * (first + length (set ms j w))) ts) f.3
-    (subst (λ (n : ℕ). Rising (t + grain) (grain * (first + n)) ts) (sym (length-set ms j w)) r.3))
+    marks_same u first (suc j) e ts (set ms j w) free (omega (arith, length-set ms j w)) (subst (λ (n : ℕ). Rising n e ts) f.3 r.3)
     ∙ ap (λ (xs : List ℕ). xs ++ ts) one ∙ append_assoc (begun u (grain * first) ms) (t ∷ []) ts
