@@ -1,23 +1,13 @@
--- The first value that fits, and values written one after another. Assumes nothing.
-use Rattle.std.proofs.Common.{◌≡◌, ℕ, ◌+◌, ◌-◌, ◌/◌, ◌%◌, ◌<◌, ◌≤◌, Bool, true, false, cond, leb, ◌⊎◌, List, [], ◌∷◌, ◌++◌, length, take, drop, set, Some, Option, unwrap_or, sym, refl, ap, ◌∙◌, ap₂, inl, inr, append_assoc, append-nil, arith, length-append}
-use Rattle.std.specs.List.{find}
-use Rattle.std.proofs.lemmas.Bool.{cases_eq}
+-- The largest value that fits, and values written one after another. Assumes nothing.
+use Rattle.std.proofs.Common.{◌≡◌, ℕ, ◌+◌, ◌-◌, ◌/◌, ◌%◌, ◌<◌, ◌≤◌, min, Bool, true, eqb, ◌⊎◌, List, [], ◌∷◌, ◌++◌, length, get_or, take, drop, set, sym, refl, ap, ◌∙◌, ap₂, inl, inr, append_assoc, append-nil, arith, length-append}
+use Rattle.std.proofs.lemmas.Bool.{cases_eq, cases_lt, eqb-true}
 use Rattle.std.proofs.lemmas.List.{drop-drop, take_more_set, drop-set-lt, take-append-drop, length-take-le, length-set}
-use Rattle.score.specs.Music.{pick}
 use Rattle.score.specs.Print.{all_values, largest, pieces}
 use Rattle.lengths.specs.Drawn.{Largest}
-use Rattle.laws.proofs.Pieces.{value_none, value_good, value_some, pieces_first, pieces_next, pieces_none}
+use Rattle.lengths.specs.declared.TheConstants.{LARGEST}
+use Rattle.laws.proofs.Pieces.{value_none, value_good, value_some, largest_whole, pieces_first, pieces_next, pieces_none}
 use Rattle.laws.proofs.Few.{count, count_few}
-
--- the first value that fits is the largest
-first_fits : (n : ℕ) (vs : List ℕ) → unwrap_or (find (λ v. leb v n) vs) 0 ≡ largest n vs
-unfolding largest
-first_fits n [] = refl
-first_fits n (v ∷ vs) = go (leb v n) (first_fits n vs)
-  where
-    go : (b : Bool) → unwrap_or (find (λ v. leb v n) vs) 0 ≡ largest n vs → unwrap_or (cond b (Some v) (find (λ v. leb v n) vs)) 0 ≡ pick b v (largest n vs)
-    go true e = refl
-    go false e = e
+use Rattle.score.proofs.Tables.{each_below, each_at}
 
 largest_known : (n v : ℕ) → v ≡ largest n all_values → Largest n v
 largest_known n v e = go (cases_eq (largest n all_values) 0)
@@ -29,9 +19,24 @@ largest_known n v e = go (cases_eq (largest n all_values) 0)
         let w = value_good (largest n all_values) g.3 in
         record { is = e; within = omega arith; small = omega arith; three = ap (λ (x : ℕ). x % 3) e ∙ g.2; some = (λ h. omega arith) }
 
--- so is what a search of the values finds
-pub found_known : (n v : ℕ) (o : Option ℕ) → o ≡ find (λ v. leb v n) all_values → v ≡ unwrap_or o 0 → Largest n v
-found_known n v o e w = largest_known n v (w ∙ ap (λ o. unwrap_or o 0) e ∙ first_fits n all_values)
+-- the table has the largest value of each length, by how many times 3 ticks that is, up to a whole note
+table_test : ℕ → Bool
+table_test n = eqb (get_or LARGEST (n / 3) 0) (largest n all_values)
+
+table_right : each_below table_test 192 ≡ true
+unfolding table_test each_below largest
+table_right = refl
+
+table_below : (n : ℕ) → n < 192 → get_or LARGEST (n / 3) 0 ≡ largest n all_values
+unfolding table_test
+table_below n h = eqb-true _ _ (each_at table_test 192 n table_right h)
+
+pub table_known : (n m : ℕ) → m ≡ min (n / 3) 64 → Largest n (get_or LARGEST m 0)
+table_known n m e = largest_known n _ (go (cases_lt n 192))
+  where
+    go : (n < 192) ⊎ (192 ≤ n) → get_or LARGEST m 0 ≡ largest n all_values
+    go (inl h) = let f : m ≡ n / 3 = omega arith in ap (λ (i : ℕ). get_or LARGEST i 0) f ∙ table_below n h
+    go (inr h) = let f : m ≡ 64 = omega arith in ap (λ (i : ℕ). get_or LARGEST i 0) f ∙ sym (largest_whole n h)
 
 -- the values of a length, where one fits and where none does
 pub next_value : (n v : ℕ) → 3 ≤ n → v ≡ largest n all_values → pieces n n ≡ v ∷ pieces (n - v) (n - v)

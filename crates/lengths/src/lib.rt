@@ -8,14 +8,25 @@ ghost use Rattle.score.specs.Print.{pieces as pieces_of};
 
 use score::SHORTEST;
 
-/// The values that can be drawn, in ticks: from the whole note down to the sixty-fourth, plain or with a dot.
-pub const VALUES: [u32; 12] = [192, 144, 96, 72, 48, 36, 24, 18, 12, 9, 6, 3];
+/// The largest value that is not longer than so many of the shortest, up to a whole note: where none fits, and then of each kind of note, without a dot and
+/// with one.
+const LARGEST: [u32; 65] = [
+    0, // none
+    3, // a sixty-fourth
+    6, 9, // a thirty-second, and with a dot
+    12, 12, 18, 18, // a sixteenth
+    24, 24, 24, 24, 36, 36, 36, 36, // an eighth
+    48, 48, 48, 48, 48, 48, 48, 48, 72, 72, 72, 72, 72, 72, 72, 72, // a quarter
+    96, 96, 96, 96, 96, 96, 96, 96, 96, 96, 96, 96, 96, 96, 96, 96, // a half
+    144, 144, 144, 144, 144, 144, 144, 144, 144, 144, 144, 144, 144, 144, 144, 144, // a half with a dot
+    192, // a whole
+];
 
 /// The largest value that is not longer than `n`, or 0 where there is none.
 pub fn largest(n: u32) -> u32
     ensures { Largest n result }
 {
-    VALUES.iter().find(|v| **v <= n).copied().unwrap_or(0)
+    LARGEST[(n / SHORTEST).min(64) as usize]
 }
 
 /// How much of what is left of an event lies in a bar of `measure` ticks, of which `begun` are gone.
@@ -68,6 +79,8 @@ pub fn pieces(n: u32, out: &mut [u32]) -> usize
 #[cfg(test)]
 mod tests {
     use super::*;
+
+    const VALUES: [u32; 12] = [192, 144, 96, 72, 48, 36, 24, 18, 12, 9, 6, 3];
 
     // Each length of up to four whole notes has as few values as the best row of values, which is found here by way of all shorter lengths.
     #[test]
