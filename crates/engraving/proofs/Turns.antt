@@ -1,15 +1,16 @@
 -- What is owed, one turn of each loop later: of values, of bars and of events. Assumes nothing.
-use Rattle.std.proofs.Common.{◌≡◌, ℕ, zero, suc, ◌+◌, ◌-◌, ◌*◌, ◌%◌, ◌<◌, ◌≤◌, min, true, eqb, ltb, leb, List, [], ◌∷◌, length, get_or, drop, sym, ap, ◌∙◌, subst, ap₂, arith}
+use Rattle.std.proofs.Common.{◌≡◌, ℕ, zero, suc, ◌+◌, ◌-◌, ◌*◌, ◌%◌, ◌<◌, ◌≤◌, min, true, eqb, ltb, leb, ◌⊎◌, List, [], ◌∷◌, length, get_or, drop, sym, ap, ◌∙◌, subst, ap₂, inl, inr, arith}
 use Rattle.std.proofs.lemmas.List.{get_or-drop, drop-drop}
-use Rattle.std.proofs.lemmas.Bool.{eq-eqb, ne_eqb, le-leb, lt-leb, and_parts}
+use Rattle.std.proofs.lemmas.Bool.{eq-eqb, ne_eqb, le-leb, lt-leb, leb-true, and_parts}
 use Rattle.score.specs.Music.{pick, Event, all_fine}
-use Rattle.score.specs.Print.{Symbol, bar, pieces, lesser, so_many}
+use Rattle.score.specs.Print.{Symbol, bar, all_values, largest, pieces, lesser, so_many}
 use Rattle.score.proofs.Picks.{pick_true, pick_false, pick_both}
 use Rattle.laws.specs.Owed.{one, owed, rest_from}
-use Rattle.laws.proofs.Laid.{lesser_less, lesser_both}
+use Rattle.laws.proofs.Laid.{lesser_both}
 use Rattle.laws.proofs.Owing.{ended, owed_line, owed_value, so_many_one, so_many_line, so_many_none, so_many_end}
 use Rattle.laws.proofs.Rows.{rest_of, voice_at, voice_drop, voice_end, fine_from, Words, fine_words, lasts_words, place_words}
 use Rattle.laws.proofs.Walk.{rest_none}
+use Rattle.lengths.specs.Drawn.{InBar}
 use Rattle.lengths.proofs.Drawing.{value_known, values_over}
 use Rattle.rows.specs.declared.Row.{Row}
 use Rattle.rows.specs.declared.Rows.{Rows}
@@ -39,42 +40,82 @@ pub starts_voice : (r : Rows) (b : ℕ) (ss : List ℕ) (i t n : ℕ) → in_voi
 unfolding in_voice
 starts_voice r b ss i t n = ap (λ (es : List Event). so_many (rest_from b t 0 es (drop i ss)) n) (sym (voice_drop r.places.now r.alterations.now r.lengths.now i))
 
--- a value: the largest that is not too long for what is left of the event and of the bar, as the values that are left begin with it
-pub record Value (b o p s d v : ℕ) (vs : List ℕ) (es : List Event) (sg : List ℕ) (n : ℕ) : Type 0 where
-  pub some : 0 < v
-  pub small : v ≤ 192
-  pub three : v % 3 ≡ 0
-  pub within : v ≤ d
-  pub fits : o + v ≤ b
-  pub then : vs ≡ pieces (lesser (d - v) (b - (o + v))) (lesser (d - v) (b - (o + v)))
-  pub owes : in_event b o p s d es sg n ≡ one p s v (ltb 0 (d - v)) ∷ in_event b (o + v) p 0 (d - v) es sg n
+-- d ticks of an event are left, of which k lie behind the part of it that is in this bar; that part ends at tick e, with the event or with the bar
+pub record Part (b e k d : ℕ) : Type 0 where
+  pub behind : k ≤ d
+  pub begun : d ≤ e + k
+  pub within : e ≤ b
+  pub ends : (k ≡ 0) ⊎ (e ≡ b)
+  pub three : e % 3 ≡ 0
+  pub behind_three : k % 3 ≡ 0
+  pub left_three : d % 3 ≡ 0
 
-pub value_turn : (b o p s d v : ℕ) (vs us : List ℕ) (es : List Event) (sg : List ℕ) (n : ℕ) → o ≤ b → b % 3 ≡ 0 → o % 3 ≡ 0 → d % 3 ≡ 0 → 0 < n →
-    us ≡ pieces (lesser d (b - o)) (lesser d (b - o)) → us ≡ v ∷ vs → Value b o p s d v vs es sg n
+-- at which tick of the bar that is
+abbrev pub tick : ℕ → ℕ → ℕ → ℕ
+tick e k d = e + k - d
+
+-- before its first value the part is all that the bar has room for
+pub part_turn : (b o d p : ℕ) → InBar d b o p → o < b → b % 3 ≡ 0 → o % 3 ≡ 0 → d % 3 ≡ 0 → Part b (o + p) (d - p) d
+part_turn b o d p g h b3 o3 d3 =
+    let p3 = g.three d3 b3 o3 in
+    let l = g.within in
+    record { behind = omega arith; begun = omega arith; within = g.fits; ends = go (lesser_both d (b - o)).2; three = omega arith; behind_three = omega arith; left_three = d3 }
+  where
+    go : (lesser d (b - o) ≡ d) ⊎ (lesser d (b - o) ≡ b - o) → (d - p ≡ 0) ⊎ (o + p ≡ b)
+    go (inl e) = inl (omega (arith, g.is))
+    go (inr e) = inr (omega (arith, g.is))
+
+pub part_begins : (b o p d q s : ℕ) (es : List Event) (sg : List ℕ) (n : ℕ) → q ≤ d → in_event b o p s d es sg n ≡ in_event b (tick (o + q) (d - q) d) p s d es sg n
+part_begins b o p d q s es sg n h = let t : o ≡ tick (o + q) (d - q) d = omega arith in ap (λ (x : ℕ). in_event b x p s d es sg n) t
+
+pub part_values : (d q m : ℕ) → m ≡ q → q ≤ d → pieces m m ≡ pieces (d - (d - q)) (d - (d - q))
+part_values d q m e h = let t : m ≡ d - (d - q) = omega arith in ap (λ (x : ℕ). pieces x x) t
+
+least : (b e k d : ℕ) → Part b e k d → lesser d (b - tick e k d) ≡ d - k
+least b e k d w = go w.ends
+  where
+    go : (k ≡ 0) ⊎ (e ≡ b) → lesser d (b - tick e k d) ≡ d - k
+    go (inl z) = pick_true _ _ _ (le-leb d (b - tick e k d) (omega (arith, w.begun, w.within))) ∙ (omega arith)
+    go (inr z) = pick_both (λ (x : ℕ). x ≡ d - k) (leb d (b - tick e k d)) d (b - tick e k d) (λ t. omega (arith, w.behind, w.begun, leb-true d (b - tick e k d) t)) (λ _. omega (arith, w.behind, w.begun))
+
+-- a value: the largest that is not too long for what is left of the part, as the values that are left begin with it
+pub record Value (b e k p s d v : ℕ) (vs : List ℕ) (es : List Event) (sg : List ℕ) (n : ℕ) : Type 0 where
+  pub small : v ≤ 192
+  pub within : v ≤ d
+  pub part : Part b e k (d - v)
+  pub then : vs ≡ pieces (d - v - k) (d - v - k)
+  pub owes : in_event b (tick e k d) p s d es sg n ≡ one p s v (ltb 0 (d - v)) ∷ in_event b (tick e k (d - v)) p 0 (d - v) es sg n
+
+pub value_turn : (b e k p s d v : ℕ) (vs us : List ℕ) (es : List Event) (sg : List ℕ) (n : ℕ) → Part b e k d → b % 3 ≡ 0 → 0 < n →
+    us ≡ pieces (d - k) (d - k) → us ≡ v ∷ vs → Value b e k p s d v vs es sg n
 unfolding in_event
-value_turn b o p s d v vs us es sg n h b3 o3 d3 m e f =
-    let g = value_known (lesser d (b - o)) v vs (sym e ∙ f) in
-    let l = lesser_both d (b - o) in
-    let w = g.0.within in
-    let z = g.1 in
-    let q : b - o - v ≡ b - (o + v) = omega arith in
-    let u : lesser d (b - o) - v ≡ lesser (d - v) (b - (o + v)) = lesser_less d (b - o) v ∙ ap (lesser (d - v)) q in
+value_turn b e k p s d v vs us es sg n w b3 m q f =
+    let g = value_known (d - k) v vs (sym q ∙ f) in
+    let some = g.1 in
+    let fits = g.0.within in
+    let l : (k ≤ d) × (d ≤ e + k) × (e ≤ b) × (e % 3 ≡ 0) × (k % 3 ≡ 0) × (d % 3 ≡ 0) = (w.behind, w.begun, w.within, w.three, w.behind_three, w.left_three) in
+    let t : tick e k d + v ≡ tick e k (d - v) = omega (arith, l) in
+    let u : d - k - v ≡ d - v - k = omega arith in
     record {
-      some = z;
       small = g.0.small;
-      three = g.0.three;
       within = omega arith;
-      fits = omega arith;
+      part = record { behind = omega (arith, l); begun = omega (arith, l); within = w.within; ends = w.ends; three = w.three; behind_three = w.behind_three; left_three = omega (arith, l, g.0.three) };
       then = g.2 ∙ ap (λ (x : ℕ). pieces x x) u;
       owes =
-          ap (λ (xs : List Symbol). so_many xs n) (owed_value b o p s d v es sg (omega arith) (omega arith) b3 o3 d3 g.0.is)
-          ∙ so_many_one p s v (ltb 0 (d - v)) (owed b (o + v) p 0 (d - v) es sg) n m;
+          ap (λ (xs : List Symbol). so_many xs n)
+          (owed_value b (tick e k d) p s d v es sg (omega (arith, l)) (omega (arith, l)) b3 (omega (arith, l)) w.left_three (g.0.is ∙ ap (λ (x : ℕ). largest x all_values) (sym (least b e k d w))))
+          ∙ so_many_one p s v (ltb 0 (d - v)) (owed b (tick e k d + v) p 0 (d - v) es sg) n m
+          ∙ ap (λ (x : ℕ). one p s v (ltb 0 (d - v)) ∷ in_event b x p 0 (d - v) es sg n) t;
     }
 
--- where no value is left, the event is over or the bar is full
-pub values_turn : (b o d : ℕ) (us : List ℕ) → b % 3 ≡ 0 → o % 3 ≡ 0 → d % 3 ≡ 0 → o ≤ b → us ≡ pieces (lesser d (b - o)) (lesser d (b - o)) → us ≡ [] → lesser d (b - o) ≡ 0
-values_turn b o d us b3 o3 d3 h e f =
-    values_over (lesser d (b - o)) (sym e ∙ f) (pick_both (λ (x : ℕ). x % 3 ≡ 0) (leb d (b - o)) d (b - o) (λ _. d3) (λ _. omega arith))
+-- where no value is left, the part is over
+pub values_turn : (b e k d : ℕ) (us : List ℕ) → Part b e k d → us ≡ pieces (d - k) (d - k) → us ≡ [] → d ≡ k
+values_turn b e k d us w q f =
+    let z : d - k ≡ 0 = values_over (d - k) (sym q ∙ f) (omega (arith, w.behind, w.left_three, w.behind_three)) in
+    omega (arith, w.behind)
+
+pub part_over : (b e k p s d : ℕ) (es : List Event) (sg : List ℕ) (n : ℕ) → d ≡ k → in_event b (tick e k d) p s d es sg n ≡ in_event b e p s d es sg n
+part_over b e k p s d es sg n h = let t : tick e k d ≡ e = omega arith in ap (λ (x : ℕ). in_event b x p s d es sg n) t
 
 -- a bar line: then another bar, or none
 pub line_turn : (b o p s d : ℕ) (es : List Event) (sg : List ℕ) (n : ℕ) → 0 < b → o ≡ b → 0 < n → in_event b o p s d es sg n ≡ bar ∷ in_event b 0 p s d es sg (n - 1)

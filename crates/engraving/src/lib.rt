@@ -106,9 +106,10 @@ impl Voice<'_> {
             // an event that has begun before has no sign
             let mut sign = if gone == 0 { signs[i] } else { 0 };
             'bars: while left > 0 {
-                'values: for value in ValuesOf(part_in_bar(left, layout.bar, begun)) {
+                let part = part_in_bar(left, layout.bar, begun);
+                begun += part;
+                'values: for value in ValuesOf(part) {
                     left -= value;
-                    begun += value;
                     at += symbol_of(row, sign, value, left > 0).write(&mut out[at..]);
                     sign = 0;
                 }

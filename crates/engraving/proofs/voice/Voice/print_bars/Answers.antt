@@ -1,11 +1,11 @@
 -- Each turn of a loop writes one symbol or passes to the next event; what is owed changes as `Turns` says.
-use Rattle.std.proofs.Common.{◌≡◌, ℕ, ◌+◌, ◌-◌, List, ◌∷◌, ◌++◌, length, take, drop, sym, refl, ap, ◌∙◌, arith}
-use Rattle.score.specs.Print.{Symbol, bar, pieces, lesser}
-use Rattle.laws.proofs.Laid.{lesser_both}
+use Rattle.std.proofs.Common.{◌≡◌, ℕ, ◌+◌, ◌-◌, ◌<◌, List, ◌∷◌, ◌++◌, length, take, drop, sym, refl, ap, ◌∙◌, arith, rules}
+use Rattle.score.specs.Print.{Symbol, bar, pieces}
 use Rattle.wire.specs.Bytes.{symbol_bytes, symbols_bytes, each}
 use Rattle.rows.specs.Rows.{voice_in}
-use Rattle.engraving.proofs.Page.{starts, owing, enter, leave, room, write, all}
-use Rattle.engraving.proofs.Turns.{in_event, events_from, starts_voice, Value, value_turn, values_turn, line_turn, no_bar, Turn, turn, pass_turn, begin_turn, middle_turn, end_turn, no_event, none_asked}
+use Rattle.engraving.proofs.Page.{Page, starts, owing, enter, leave, room, write, all}
+use Rattle.engraving.proofs.Turns.{in_event, events_from, starts_voice, part_turn, part_begins, part_values, part_over, Value, value_turn, values_turn, line_turn, no_bar, Turn, turn, pass_turn, begin_turn, middle_turn, end_turn, no_event, none_asked}
+use Rattle.engraving.proofs.voice.Voice.print_bars.Invariants.{whole_of}
 use Rattle.engraving.proofs.voice.Voice.print_bars.Goals as goal
 use Rattle.engraving.proofs.voice.Voice.print_bars.Goals.{then-gone-eq0, else-gone-eq0}
 use Rattle.engraving.proofs.voice.Voice.print_bars.Goals.{After-row-row, In-Some, In-None, Then-begun-layout}
@@ -68,23 +68,28 @@ bars-init c =
 pub symbol_of-requires-clause-place : goal.symbol_of-requires-clause-place
 symbol_of-requires-clause-place c = (this (goal.at.symbol_of-requires-clause-place c).After-row-row).words.place
 
--- a value and a bar line as they come next
-value : (c : In-Some) →
-    Value c.args.self.layout.bar c.values.begun c.row-row.result.place c.values.sign c.values.left c.in-Some.value (pieces c.next.new.self.0 c.next.new.self.0) (events_from c.args.self.rows (c.events.i + 1)) (drop (c.events.i + 1) c.args.signs.now) c.bars.more
-value c =
-    value_turn c.args.self.layout.bar c.values.begun c.row-row.result.place c.values.sign c.values.left c.in-Some.value _ _ _ _ c.bars.more
-    (omega arith) c.args.self.ready.thirds (omega arith) (omega arith) (omega arith) c.values.invariant.6 c.in-Some.ensures.steps
+-- before the first value of a bar
+pub values-init : goal.values-init
+values-init c =
+    let g = c.part_in_bar-part.ensures in (
+      enter (owing _ c.bars.invariant.0 (part_begins _ _ _ _ c.part_in_bar-part.result _ _ _ _ g.within)),
+      part_turn _ _ _ _ g (omega arith) c.args.self.ready.thirds (omega arith) (omega arith),
+      omega arith,
+      omega arith,
+      part_values _ _ _ (search rules) g.within,
+    )
 
-line : (c : Then-begun-layout) →
-    in_event c.args.self.layout.bar c.values.begun c.row-row.result.place c.values.sign c.values.left (events_from c.args.self.rows (c.events.i + 1)) (drop (c.events.i + 1) c.args.signs.now) c.bars.more
-    ≡ bar ∷ in_event c.args.self.layout.bar 0 c.row-row.result.place c.values.sign c.values.left (events_from c.args.self.rows (c.events.i + 1)) (drop (c.events.i + 1) c.args.signs.now) (c.bars.more - 1)
-line c = line_turn c.args.self.layout.bar c.values.begun c.row-row.result.place c.values.sign c.values.left _ _ c.bars.more (omega (arith, c.args.self.ready.some)) c.if-begun-layout.true (omega arith)
+-- a value as it comes next
+value : (c : In-Some) →
+    Value c.args.self.layout.bar (c.bars.begun + c.part_in_bar-part.result) (c.bars.left - c.part_in_bar-part.result) c.row-row.result.place c.values.sign c.values.left c.in-Some.value
+    (pieces c.next.new.self.0 c.next.new.self.0) (events_from c.args.self.rows (c.events.i + 1)) (drop (c.events.i + 1) c.args.signs.now) c.bars.more
+value c = value_turn _ _ _ _ _ _ _ _ _ _ _ c.bars.more c.values.invariant.1 c.args.self.ready.thirds (omega arith) c.values.invariant.4 c.in-Some.ensures.steps
 
 pub overflow_sub-left-in-values : goal.overflow_sub-left-in-values
 overflow_sub-left-in-values c = (value (goal.at.overflow_sub-left-in-values c).In-Some).within
 
 pub overflow_add-begun : goal.overflow_add-begun
-overflow_add-begun c = let v = value (goal.at.overflow_add-begun c).In-Some in omega (arith, v.fits)
+overflow_add-begun c = let g = c.part_in_bar-part.ensures in omega (arith, g.fits)
 
 pub symbol_of-requires-clause-value : goal.symbol_of-requires-clause-value
 symbol_of-requires-clause-value c = let v = value (goal.at.symbol_of-requires-clause-value c).In-Some in omega (arith, v.small)
@@ -97,43 +102,61 @@ values-preserved c =
     let v = value (goal.at.values-preserved c).In-Some in (
       write _ _ c.write-at.new.out c.write-at.result c.values.invariant.0 v.owes (omega arith) c.write-at.ensures.many
           (c.write-at.ensures.wrote ∙ ap (λ (x : Symbol). symbol_bytes x ++ drop c.write-at.result (take (length c.values.out - c.values.at) (drop c.values.at c.values.out))) c.symbol_of.ensures),
-      v.fits,
-      omega (arith, v.three),
-      omega (arith, v.three, v.within),
+      v.part,
       omega arith,
       omega arith,
       v.then,
-      omega (arith, v.within),
     )
 
+-- behind the values of a bar, the bar is full or the event has ended
+over : (c : In-None) → c.values.left ≡ c.bars.left - c.part_in_bar-part.result
+over c = values_turn _ _ _ _ _ c.values.invariant.1 c.values.invariant.4 c.in-None.ensures.steps.0
+
+behind : (c : In-None) →
+    Page (whole_of c.args.self.rows c.args.self.layout c.args.signs.now c.args.begin c.args.count) c.bars.out c.values.out c.values.at
+    (in_event c.args.self.layout.bar (c.bars.begun + c.part_in_bar-part.result) c.row-row.result.place c.values.sign c.values.left (events_from c.args.self.rows (c.events.i + 1)) (drop (c.events.i + 1) c.args.signs.now) c.bars.more)
+behind c = owing _ c.values.invariant.0 (part_over _ _ _ _ _ _ _ _ _ (over c))
+
+-- a bar line as it comes next
+line : (c : Then-begun-layout) →
+    in_event c.args.self.layout.bar (c.bars.begun + c.part_in_bar-part.result) c.row-row.result.place c.values.sign c.values.left (events_from c.args.self.rows (c.events.i + 1)) (drop (c.events.i + 1) c.args.signs.now) c.bars.more
+    ≡ bar ∷ in_event c.args.self.layout.bar 0 c.row-row.result.place c.values.sign c.values.left (events_from c.args.self.rows (c.events.i + 1)) (drop (c.events.i + 1) c.args.signs.now) (c.bars.more - 1)
+line c = line_turn _ _ _ _ _ _ _ c.bars.more (omega (arith, c.args.self.ready.some)) c.if-begun-layout.true (omega arith)
+
 pub write-at-requires-then-begun-layout : goal.write-at-requires-then-begun-layout
-write-at-requires-then-begun-layout c = room _ _ c.values.invariant.0 (line (goal.at.write-at-requires-then-begun-layout c).Then-begun-layout) (omega arith)
+write-at-requires-then-begun-layout c =
+    let l = (goal.at.write-at-requires-then-begun-layout c).Then-begun-layout in
+    room _ _ (behind (goal.at.write-at-requires-then-begun-layout c).In-None) (line l) (omega arith)
 
 pub bars-preserved-else-more-eq0 : goal.bars-preserved-else-more-eq0
 bars-preserved-else-more-eq0 c =
     let e = line (goal.at.bars-preserved-else-more-eq0 c).Then-begun-layout in
-    let w = write _ _ c.write-at-then-begun-layout.new.out c.write-at-then-begun-layout.result c.values.invariant.0 e (omega arith) c.write-at-then-begun-layout.ensures.many c.write-at-then-begun-layout.ensures.wrote in (
+    let w = write _ _ c.write-at-then-begun-layout.new.out c.write-at-then-begun-layout.result (behind (goal.at.bars-preserved-else-more-eq0 c).In-None) e (omega arith) c.write-at-then-begun-layout.ensures.many c.write-at-then-begun-layout.ensures.wrote in (
       leave c.bars.at w c.bars.invariant.0.back (omega arith),
       omega (arith, c.args.self.ready.some),
       refl,
-      omega arith,
+      omega (arith, c.values.invariant.1.left_three),
       omega arith,
       omega arith,
       omega arith,
     )
 
--- behind the values of a bar, the bar is full or the event has ended
-over : (c : In-None) → lesser c.values.left (c.args.self.layout.bar - c.values.begun) ≡ 0
-over c = values_turn _ _ _ _ c.args.self.ready.thirds (omega arith) (omega arith) (omega arith) c.values.invariant.6 c.in-None.ensures.steps.0
+shorter : (c : In-None) → c.values.left < c.bars.left
+shorter c =
+    let o = over c in
+    let g = c.part_in_bar-part.ensures in
+    omega (arith, g.some (omega arith) (omega arith))
 
 pub bars-smaller : goal.bars-smaller
-bars-smaller c =
-    let o = over (goal.at.bars-smaller c).In-None in
-    let b = lesser_both c.values.left (c.args.self.layout.bar - c.values.begun) in
-    omega arith
+bars-smaller c = shorter (goal.at.bars-smaller c).In-None
+
+pub bars-smaller-else-more-eq0 : goal.bars-smaller-else-more-eq0
+bars-smaller-else-more-eq0 c = shorter (goal.at.bars-smaller-else-more-eq0 c).In-None
 
 pub bars-preserved : goal.bars-preserved
-bars-preserved c = (leave c.bars.at c.values.invariant.0 c.bars.invariant.0.back (omega arith), omega arith, omega arith, omega arith, omega arith, omega arith, omega arith)
+bars-preserved c =
+    let w = c.values.invariant.1 in
+    (leave c.bars.at (behind (goal.at.bars-preserved c).In-None) c.bars.invariant.0.back (omega arith), omega (arith, w.within), w.three, w.left_three, omega arith, omega arith, omega arith)
 
 pub events-preserved : goal.events-preserved
 events-preserved c =
@@ -153,6 +176,6 @@ returns-after-events c =
 pub returns-then-more-eq0 : goal.returns-then-more-eq0
 returns-then-more-eq0 c =
     let e = line (goal.at.returns-then-more-eq0 c).Then-begun-layout in
-    let w = write _ _ c.write-at-then-begun-layout.new.out c.write-at-then-begun-layout.result c.values.invariant.0 e (omega arith) c.write-at-then-begun-layout.ensures.many c.write-at-then-begun-layout.ensures.wrote in
+    let w = write _ _ c.write-at-then-begun-layout.new.out c.write-at-then-begun-layout.result (behind (goal.at.returns-then-more-eq0 c).In-None) e (omega arith) c.write-at-then-begun-layout.ensures.many c.write-at-then-begun-layout.ensures.wrote in
     let a = all (leave {was = c.args.out.now} c.events.at (leave {was = c.events.out} c.bars.at w c.bars.invariant.0.back (omega arith)) c.events.invariant.0.back (omega arith)) (no_bar _ _ _ _ _ _ _ _ c.if-more-eq0.true) in
     record { wrote = a.0; many = a.1 }
