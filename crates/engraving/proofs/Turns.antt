@@ -1,7 +1,7 @@
 -- What is owed, one turn of each loop later: of values, of bars and of events. Assumes nothing.
-use Rattle.std.proofs.Common.{◌≡◌, ℕ, zero, suc, ◌+◌, ◌-◌, ◌*◌, ◌%◌, ◌<◌, ◌≤◌, min, true, eqb, ltb, leb, ◌⊎◌, List, [], ◌∷◌, length, get_or, drop, sym, ap, ◌∙◌, subst, ap₂, inl, inr, arith}
+use Rattle.std.proofs.Common.{◌≡◌, ℕ, zero, suc, ◌+◌, ◌-◌, ◌*◌, ◌%◌, ◌<◌, ◌≤◌, true, eqb, ltb, leb, ◌⊎◌, List, [], ◌∷◌, length, get_or, drop, sym, ap, ◌∙◌, subst, ap₂, inl, inr, arith}
 use Rattle.std.proofs.lemmas.List.{get_or-drop, drop-drop}
-use Rattle.std.proofs.lemmas.Bool.{eq-eqb, ne_eqb, le-leb, lt-leb, leb-true, and_parts}
+use Rattle.std.proofs.lemmas.Bool.{eq-eqb, ne_eqb, le-leb, lt-leb, leb-true, and_parts, cases_lt}
 use Rattle.score.specs.Music.{pick, Event, all_fine}
 use Rattle.score.specs.Print.{Symbol, bar, all_values, largest, pieces, lesser, so_many}
 use Rattle.score.proofs.Picks.{pick_true, pick_false, pick_both}
@@ -159,44 +159,40 @@ this_turn {es} {fs} {w} b t o i ss n g =
     ∙ ap₂ (λ (s : ℕ) (sg : List ℕ). so_many (pick (leb w.length t) (rest_from b (t - w.length) o fs sg) (owed b o w.place (pick (eqb t 0) s 0) (w.length - t) fs sg)) n)
     sign (drop-drop 1 i ss)
 
--- where g ticks of an event are gone, as many as it has of those that are to be passed over
-pub pass_turn : {es fs : List Event} {w : Row} (b t o g i : ℕ) (ss : List ℕ) (n : ℕ) → Turn es w fs → g ≡ min t w.length → w.length - g ≡ 0 →
-    in_voice b t o es (drop i ss) n ≡ in_voice b (t - g) o fs (drop (i + 1) ss) n
+-- an event that is over when all is passed over that is to be
+pub pass_turn : {es fs : List Event} {w : Row} (b t o i : ℕ) (ss : List ℕ) (n : ℕ) → Turn es w fs → w.length ≤ t → in_voice b t o es (drop i ss) n ≡ in_voice b (t - w.length) o fs (drop (i + 1) ss) n
 unfolding in_voice
-pass_turn {es} {fs} {w} b t o g i ss n q e z =
-    let y : w.length ≡ g = omega arith in
-    this_turn b t o i ss n q
-    ∙ ap (λ (ys : List Symbol). so_many ys n) (pick_true _ _ _ (le-leb w.length t (omega arith)))
-    ∙ ap (λ (d : ℕ). so_many (rest_from b (t - d) o fs (drop (i + 1) ss)) n) y
+pass_turn {es} {fs} {w} b t o i ss n q h = this_turn b t o i ss n q ∙ ap (λ (ys : List Symbol). so_many ys n) (pick_true _ _ _ (le-leb w.length t h))
 
--- what is left of it has the event's sign if it begins here
-reach_turn : {es fs : List Event} {w : Row} (b t o g i : ℕ) (ss : List ℕ) (n : ℕ) → Turn es w fs → g ≡ min t w.length → (w.length - g ≡ 0 → ⊥) →
-    in_voice b t o es (drop i ss) n ≡ in_event b o w.place (pick (eqb g 0) (get_or ss i 0) 0) (w.length - g) fs (drop (i + 1) ss) n
-unfolding in_event
-reach_turn {es} {fs} {w} b t o g i ss n q e z =
-    let y : t ≡ g = omega arith in
-    this_turn b t o i ss n q
-    ∙ ap (λ (ys : List Symbol). so_many ys n) (pick_false _ _ _ (lt-leb w.length t (omega arith)))
-    ∙ ap (λ (x : ℕ). so_many (owed b o w.place (pick (eqb x 0) (get_or ss i 0) 0) (w.length - x) fs (drop (i + 1) ss)) n) y
-
-pub begin_turn : {es fs : List Event} {w : Row} (b t o g i : ℕ) (ss : List ℕ) (n : ℕ) → Turn es w fs → g ≡ min t w.length → (w.length - g ≡ 0 → ⊥) → g ≡ 0 →
-    in_voice b t o es (drop i ss) n ≡ in_event b o w.place (get_or ss i 0) (w.length - g) fs (drop (i + 1) ss) n
-begin_turn {es} {fs} {w} b t o g i ss n q e z y =
-    reach_turn b t o g i ss n q e z ∙ ap (λ (s : ℕ). in_event b o w.place s (w.length - g) fs (drop (i + 1) ss) n) (pick_true _ _ _ (eq-eqb g 0 y))
-
-pub middle_turn : {es fs : List Event} {w : Row} (b t o g i : ℕ) (ss : List ℕ) (n : ℕ) → Turn es w fs → g ≡ min t w.length → (w.length - g ≡ 0 → ⊥) → (g ≡ 0 → ⊥) →
-    in_voice b t o es (drop i ss) n ≡ in_event b o w.place 0 (w.length - g) fs (drop (i + 1) ss) n
-middle_turn {es} {fs} {w} b t o g i ss n q e z y =
-    reach_turn b t o g i ss n q e z ∙ ap (λ (s : ℕ). in_event b o w.place s (w.length - g) fs (drop (i + 1) ss) n) (pick_false _ _ _ (ne_eqb g 0 y))
-
--- an event has ended, and all have
-pub end_turn : (b t o p s d : ℕ) (es : List Event) (sg : List ℕ) (n : ℕ) → all_fine es ≡ true → o < b → d ≡ 0 → t ≡ 0 → in_event b o p s d es sg n ≡ in_voice b t o es sg n
+-- an event has ended
+pub end_turn : (b o p s d : ℕ) (es : List Event) (sg : List ℕ) (n : ℕ) → all_fine es ≡ true → o < b → d ≡ 0 → in_event b o p s d es sg n ≡ in_voice b 0 o es sg n
 unfolding in_event in_voice
-end_turn b t o p s d es sg n f l z y =
-    ap (λ (x : ℕ). so_many (owed b o p s x es sg) n) z
-    ∙ ap (λ (ys : List Symbol). so_many ys n) (ended b o p s es sg l ∙ sym (rest_none b o es sg l f))
-    ∙ ap (λ (x : ℕ). so_many (rest_from b x o es sg) n) (sym y)
+end_turn b o p s d es sg n f l z =
+    ap (λ (x : ℕ). so_many (owed b o p s x es sg) n) z ∙ ap (λ (ys : List Symbol). so_many ys n) (ended b o p s es sg l ∙ sym (rest_none b o es sg l f))
 
+-- where g ticks of an event are gone, what is left of it has the event's sign if it begins here
+left_turn : {es fs : List Event} {w : Row} (b o g i : ℕ) (ss : List ℕ) (n : ℕ) → Turn es w fs → o < b → g ≤ w.length →
+    in_voice b g o es (drop i ss) n ≡ in_event b o w.place (pick (eqb g 0) (get_or ss i 0) 0) (w.length - g) fs (drop (i + 1) ss) n
+unfolding in_event
+left_turn {es} {fs} {w} b o g i ss n q l h = go (cases_lt g w.length)
+  where
+    go : (g < w.length) ⊎ (w.length ≤ g) → in_voice b g o es (drop i ss) n ≡ in_event b o w.place (pick (eqb g 0) (get_or ss i 0) 0) (w.length - g) fs (drop (i + 1) ss) n
+    go (inl y) = this_turn b g o i ss n q ∙ ap (λ (ys : List Symbol). so_many ys n) (pick_false _ _ _ (lt-leb w.length g y))
+    go (inr y) =
+        let z : g - w.length ≡ 0 = omega arith in
+        pass_turn b g o i ss n q y ∙ ap (λ (t : ℕ). in_voice b t o fs (drop (i + 1) ss) n) z ∙ sym (end_turn b o w.place (pick (eqb g 0) (get_or ss i 0) 0) (w.length - g) fs (drop (i + 1) ss) n q.others l (omega arith))
+
+pub begin_turn : {es fs : List Event} {w : Row} (b o g i : ℕ) (ss : List ℕ) (n : ℕ) → Turn es w fs → o < b → g ≤ w.length → g ≡ 0 →
+    in_voice b g o es (drop i ss) n ≡ in_event b o w.place (get_or ss i 0) (w.length - g) fs (drop (i + 1) ss) n
+begin_turn {es} {fs} {w} b o g i ss n q l h y =
+    left_turn b o g i ss n q l h ∙ ap (λ (s : ℕ). in_event b o w.place s (w.length - g) fs (drop (i + 1) ss) n) (pick_true _ _ _ (eq-eqb g 0 y))
+
+pub middle_turn : {es fs : List Event} {w : Row} (b o g i : ℕ) (ss : List ℕ) (n : ℕ) → Turn es w fs → o < b → g ≤ w.length → (g ≡ 0 → ⊥) →
+    in_voice b g o es (drop i ss) n ≡ in_event b o w.place 0 (w.length - g) fs (drop (i + 1) ss) n
+middle_turn {es} {fs} {w} b o g i ss n q l h y =
+    left_turn b o g i ss n q l h ∙ ap (λ (s : ℕ). in_event b o w.place s (w.length - g) fs (drop (i + 1) ss) n) (pick_false _ _ _ (ne_eqb g 0 y))
+
+-- all have
 pub no_event : (b t o : ℕ) (sg : List ℕ) (r : Rows) (i n : ℕ) → length r.lengths.now ≤ i → length r.places.now ≡ length r.lengths.now → in_voice b t o (events_from r i) sg n ≡ []
 unfolding in_voice rest_from
 no_event b t o sg r i n h e = ap (λ (es : List Event). so_many (rest_from b t o es sg) n) (voice_end r.places.now r.alterations.now r.lengths.now i h e) ∙ so_many_end n

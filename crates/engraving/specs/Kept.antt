@@ -1,5 +1,5 @@
 -- What is kept of a voice, and where printing begins by it. Assumes nothing: these are definitions.
-use Rattle.std.specs.Prelude.{◌≡◌, ℕ, ◌%◌, ◌<◌, ◌≤◌, List, length, slice_index}
+use Rattle.std.specs.Prelude.{◌≡◌, ℕ, ◌%◌, ◌<◌, ◌≤◌, ◌^◌, List, length, slice_index}
 use Rattle.score.specs.declared.Layout.{Layout}
 use Rattle.score.specs.Music.{Event}
 use Rattle.laws.specs.Onsets.{bars_of, ticks_of, signs_of}
@@ -28,3 +28,10 @@ pub record Before (ws : List ℕ) (n r : ℕ) : Type 0 where
 pub record Begins (r : Rows) (ss : List ℕ) (y : Layout) (m : ℕ) (g : Begin) : Type 0 where
   pub asked : (n : ℕ) → left_of y.bar (voice_in r) ss g.event g.skip n ≡ asked_for y.key y.bar (voice_in r) m n
   pub thirds : g.skip % 3 ≡ 0
+
+-- where printing begins, said again: with an event that has not ended by then, or behind the last
+pub record Reached (r : Rows) (y : Layout) (g h : Begin) : Type 0 where
+  pub same : (ss : List ℕ) (n : ℕ) → left_of y.bar (voice_in r) ss g.event g.skip n ≡ left_of y.bar (voice_in r) ss h.event h.skip n
+  pub within : h.skip ≤ slice_index r.lengths.now h.event
+  pub short : h.skip < 2 ^ 32
+  pub thirds : h.skip % 3 ≡ 0

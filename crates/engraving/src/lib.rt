@@ -11,6 +11,7 @@ ghost use Rattle.laws.specs.Onsets.{signs_of};
 ghost use Rattle.laws.specs.Owed.{one};
 ghost use Rattle.wire.specs.Bytes.{symbols_bytes};
 ghost use Rattle.keys.specs.Held.{sign_number};
+ghost use Rattle.engraving.specs.Kept.{Reached};
 ghost use Rattle.engraving.specs.Shown.{shown, left_of, page_bytes, bars_take};
 ghost use Rattle.engraving.specs.Voice.{SignsFit};
 ghost use Rattle.rows.specs.Rows.{voice_in};
@@ -77,6 +78,26 @@ impl Voice<'_> {
         }
     }
 
+    /// Passes over the events that have ended where printing begins: it begins with the next, of which part may be gone.
+    fn reach(self, begin: Begin) -> Begin
+        requires { begin.skip % 3 ≡ 0 }
+        ensures { Reached self.entry.rows self.entry.layout begin result }
+    {
+        let lengths = self.rows.lengths;
+        let mut skip = begin.skip;
+        for event in begin.event..lengths.len() {
+            let length = lengths[event] as u64;
+            if skip < length {
+                return Begin { event, skip };
+            }
+            skip -= length;
+        }
+        Begin {
+            event: lengths.len(),
+            skip: 0,
+        }
+    }
+
     /// Prints up to `count` bars from where `begin` says, with the signs that are given.
     fn print_bars(self, signs: &[u32], begin: Begin, count: u32, out: &mut [u8]) -> usize
         requires signed { SignsFit self.rows signs.now }
@@ -89,22 +110,19 @@ impl Voice<'_> {
         if count == 0 {
             return 0;
         }
+        let Begin { event, skip } = self.reach(begin);
         // symbols are written into lent bytes, of which the first `at` are taken: there is no heap here
         let mut at = 0;
         let mut begun = 0;
         let mut more = count;
-        let mut skip = begin.skip;
+        let mut gone = skip as u32;
         // by their number: the signs lie beside them, and printing begins in the middle at once
-        'events: for i in begin.event..rows.lengths.len() {
+        'events: for i in event..rows.lengths.len() {
             let row = rows.row(i);
-            let gone = skip.min(row.length as u64) as u32;
-            skip -= gone as u64;
             let mut left = row.length - gone;
-            if left == 0 {
-                continue 'events;
-            }
             // an event that has begun before has no sign
             let mut sign = if gone == 0 { signs[i] } else { 0 };
+            gone = 0;
             'bars: while left > 0 {
                 let part = part_in_bar(left, layout.bar, begun);
                 begun += part;

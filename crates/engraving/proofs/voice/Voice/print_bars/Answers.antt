@@ -1,10 +1,11 @@
 -- Each turn of a loop writes one symbol or passes to the next event; what is owed changes as `Turns` says.
-use Rattle.std.proofs.Common.{◌≡◌, ℕ, ◌+◌, ◌-◌, ◌<◌, List, ◌∷◌, ◌++◌, length, take, drop, sym, refl, ap, ◌∙◌, arith, rules}
+use Rattle.std.proofs.Common.{◌≡◌, ℕ, ◌+◌, ◌-◌, ◌<◌, ◌≤◌, List, ◌∷◌, ◌++◌, length, take, drop, sym, refl, ap, ◌∙◌, arith, rules}
 use Rattle.score.specs.Print.{Symbol, bar, pieces}
 use Rattle.wire.specs.Bytes.{symbol_bytes, symbols_bytes, each}
+use Rattle.rows.specs.declared.Row.{Row}
 use Rattle.rows.specs.Rows.{voice_in}
 use Rattle.engraving.proofs.Page.{Page, starts, owing, enter, leave, room, write, all}
-use Rattle.engraving.proofs.Turns.{in_event, events_from, starts_voice, part_turn, part_begins, part_values, part_over, Value, value_turn, values_turn, line_turn, no_bar, Turn, turn, pass_turn, begin_turn, middle_turn, end_turn, no_event, none_asked}
+use Rattle.engraving.proofs.Turns.{in_event, events_from, starts_voice, part_turn, part_begins, part_values, part_over, Value, value_turn, values_turn, line_turn, no_bar, Turn, turn, begin_turn, middle_turn, end_turn, no_event, none_asked}
 use Rattle.engraving.proofs.voice.Voice.print_bars.Invariants.{whole_of}
 use Rattle.engraving.proofs.voice.Voice.print_bars.Goals as goal
 use Rattle.engraving.proofs.voice.Voice.print_bars.Goals.{then-gone-eq0, else-gone-eq0}
@@ -17,48 +18,48 @@ returns-then-count-eq0 c =
     record { wrote = ap (λ (bs : List ℕ). bs ++ c.args.out.now) (sym e); many = ap length (sym e) }
 
 pub events-init : goal.events-init
-events-init c = (
-  starts _ _ _ (starts_voice c.args.self.rows c.args.self.layout.bar c.args.signs.now c.args.begin.event c.args.begin.skip c.args.count),
-  omega (arith, c.args.self.ready.some),
-  refl,
-  omega arith,
-  c.requires.thirds,
-)
+events-init c =
+    let g = c.reach-event.ensures in (
+      starts _ _ _ (starts_voice c.args.self.rows c.args.self.layout.bar c.args.signs.now c.reach-event.result.event c.reach-event.result.skip c.args.count ∙ sym (g.same c.args.signs.now c.args.count)),
+      omega (arith, c.args.self.ready.some),
+      refl,
+      omega arith,
+      g.within,
+      g.thirds,
+    )
 
 -- the event of this turn
 this : (c : After-row-row) → Turn (events_from c.args.self.rows c.events.i) c.row-row.result (events_from c.args.self.rows (c.events.i + 1))
 this c = turn c.args.self.rows c.args.self.layout c.events.i c.row-row.result c.args.self.ready c.events-test.true c.row-row.ensures
 
-pub events-preserved-then-left-eq0 : goal.events-preserved-then-left-eq0
-events-preserved-then-left-eq0 c =
-    let t = this (goal.at.events-preserved-then-left-eq0 c).After-row-row in (
-      owing _ c.events.invariant.0 (pass_turn _ _ _ _ c.events.i c.args.signs.now c.events.more t c.min-gone.ensures c.if-left-eq0.true),
-      omega arith,
-      omega arith,
-      omega arith,
-      omega (arith, t.words.three, c.min-gone.ensures),
-    )
+-- of which no more is gone than it lasts
+lasts : (c : After-row-row) → c.events.gone ≤ c.row-row.result.length
+lasts c = let l = ap (λ (w : Row). w.length) c.row-row.ensures in omega (arith, l)
+
+pub overflow_sub-left : goal.overflow_sub-left
+overflow_sub-left c = lasts (goal.at.overflow_sub-left c).After-row-row
 
 pub bars-init : goal.bars-init
 bars-init c =
     let t = this (goal.at.bars-init c).After-row-row in
+    let h = lasts (goal.at.bars-init c).After-row-row in
     elim c.if-gone-eq0.branch [
       | then-gone-eq0 w ↦
           simp w.sign-is (
-            enter (owing _ c.events.invariant.0 (begin_turn _ _ _ _ c.events.i c.args.signs.now c.events.more t c.min-gone.ensures c.if-left-eq0.false w.if-gone-eq0.true)),
+            enter (owing _ c.events.invariant.0 (begin_turn _ _ _ c.events.i c.args.signs.now c.events.more t (omega arith) h w.if-gone-eq0.true)),
             omega arith,
             omega arith,
-            omega (arith, t.words.three, c.min-gone.ensures),
+            omega (arith, t.words.three, h),
             c.requires.signed.small c.events.i,
             omega arith,
             omega arith,
           )
       | else-gone-eq0 w ↦
           simp w.sign-is (
-            enter (owing _ c.events.invariant.0 (middle_turn _ _ _ _ c.events.i c.args.signs.now c.events.more t c.min-gone.ensures c.if-left-eq0.false w.if-gone-eq0.false)),
+            enter (owing _ c.events.invariant.0 (middle_turn _ _ _ c.events.i c.args.signs.now c.events.more t (omega arith) h w.if-gone-eq0.false)),
             omega arith,
             omega arith,
-            omega (arith, t.words.three, c.min-gone.ensures),
+            omega (arith, t.words.three, h),
             omega arith,
             omega arith,
             omega arith,
@@ -161,11 +162,12 @@ bars-preserved c =
 pub events-preserved : goal.events-preserved
 events-preserved c =
     let o = (this (goal.at.events-preserved c).After-row-row).others in (
-      leave c.events.at (owing _ c.bars.invariant.0 (end_turn _ _ _ _ _ _ _ _ _ o (omega arith) (omega arith) (omega (arith, c.min-gone.ensures, c.if-left-eq0.false)))) c.events.invariant.0.back (omega arith),
+      leave c.events.at (owing _ c.bars.invariant.0 (end_turn _ _ _ _ _ _ _ _ o (omega arith) (omega arith))) c.events.invariant.0.back (omega arith),
       omega arith,
       omega arith,
       omega arith,
-      omega (arith, c.min-gone.ensures, c.if-left-eq0.false),
+      omega arith,
+      refl,
     )
 
 pub returns-after-events : goal.returns-after-events

@@ -1,5 +1,5 @@
 -- What holds before each event, each bar and each value. Assumes nothing.
-use Rattle.std.proofs.Common.{◌≡◌, ℕ, ◌+◌, ◌-◌, ◌%◌, ◌<◌, ◌≤◌, List, drop}
+use Rattle.std.proofs.Common.{◌≡◌, ℕ, ◌+◌, ◌-◌, ◌%◌, ◌<◌, ◌≤◌, List, get_or, drop}
 use Rattle.score.specs.declared.Layout.{Layout}
 use Rattle.score.specs.Print.{Symbol, pieces}
 use Rattle.rows.specs.declared.Rows.{Rows}
@@ -34,5 +34,5 @@ decreases-bars l = l.left
 abbrev pub invariant-events : goal.invariant-events
 invariant-events l =
     Page (whole_of l.rows l.layout l.signs l.fn.begin l.count) l.initial.out l.out l.at
-    (in_voice l.layout.bar l.skip l.begun (events_from l.rows l.i) (drop l.i l.signs) l.more)
-    × (l.begun < l.layout.bar) × (l.begun % 3 ≡ 0) × (0 < l.more) × (l.skip % 3 ≡ 0)
+    (in_voice l.layout.bar l.gone l.begun (events_from l.rows l.i) (drop l.i l.signs) l.more)
+    × (l.begun < l.layout.bar) × (l.begun % 3 ≡ 0) × (0 < l.more) × (l.gone ≤ get_or l.rows.lengths.now l.i 0) × (l.gone % 3 ≡ 0)
