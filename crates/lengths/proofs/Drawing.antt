@@ -31,12 +31,12 @@ table_below : (n : ℕ) → n < 192 → get_or LARGEST (n / 3) 0 ≡ largest n a
 unfolding table_test
 table_below n h = eqb-true _ _ (each_at table_test 192 n table_right h)
 
-pub table_known : (n m : ℕ) → m ≡ min (n / 3) 64 → Largest n (get_or LARGEST m 0)
+pub table_known : (n m : ℕ) → m ≡ min n 192 → Largest n (get_or LARGEST (m / 3) 0)
 table_known n m e = largest_known n _ (go (cases_lt n 192))
   where
-    go : (n < 192) ⊎ (192 ≤ n) → get_or LARGEST m 0 ≡ largest n all_values
-    go (inl h) = let f : m ≡ n / 3 = omega arith in ap (λ (i : ℕ). get_or LARGEST i 0) f ∙ table_below n h
-    go (inr h) = let f : m ≡ 64 = omega arith in ap (λ (i : ℕ). get_or LARGEST i 0) f ∙ sym (largest_whole n h)
+    go : (n < 192) ⊎ (192 ≤ n) → get_or LARGEST (m / 3) 0 ≡ largest n all_values
+    go (inl h) = let f : m ≡ n = omega arith in ap (λ (x : ℕ). get_or LARGEST (x / 3) 0) f ∙ table_below n h
+    go (inr h) = let f : m ≡ 192 = omega arith in ap (λ (x : ℕ). get_or LARGEST (x / 3) 0) f ∙ sym (largest_whole n h)
 
 -- the values of a length, where one fits and where none does
 pub next_value : (n v : ℕ) → 3 ≤ n → v ≡ largest n all_values → pieces n n ≡ v ∷ pieces (n - v) (n - v)

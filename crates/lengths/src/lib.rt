@@ -8,6 +8,9 @@ ghost use Rattle.score.specs.Print.{pieces as pieces_of};
 
 use score::SHORTEST;
 
+/// A whole note, in ticks: the largest value there is.
+const WHOLE: u32 = 192;
+
 /// The largest value that is not longer than so many of the shortest, up to a whole note: where none fits, and then of each kind of note, without a dot and
 /// with one.
 const LARGEST: [u32; 65] = [
@@ -26,7 +29,7 @@ const LARGEST: [u32; 65] = [
 pub fn largest(n: u32) -> u32
     ensures { Largest n result }
 {
-    LARGEST[(n / SHORTEST).min(64) as usize]
+    LARGEST[(n.min(WHOLE) / SHORTEST) as usize]
 }
 
 /// How much of what is left of an event lies in a bar of `measure` ticks, of which `begun` are gone.
