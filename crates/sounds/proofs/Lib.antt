@@ -5,6 +5,7 @@ pub mod Turns
 pub mod Parts
 pub mod Walks
 pub mod Turned
+pub mod Written
 pub mod Writing
 pub mod Used
 pub mod Passing
@@ -12,3 +13,4 @@ pub mod Marked
 pub mod Search
 pub mod Whole
 pub mod Line
+pub mod Alone

@@ -28,13 +28,17 @@ comes_first n m r e =
     voice_zipped n.places.now n.alterations.now n.lengths.now ∙ ap (map event_in) e
     ∙ ap (λ (es : List Event). event_in r ∷ es) (sym (voice_zipped m.places.now m.alterations.now m.lengths.now))
 
-heard_silent : (r : Row) (es : List Event) (t : ℕ) → (r.place == places) ≡ true → heard (event_in r ∷ es) t ≡ heard es (t + r.length)
+pub heard_silent : (r : Row) (es : List Event) (t : ℕ) → (r.place == places) ≡ true → heard (event_in r ∷ es) t ≡ heard es (t + r.length)
 unfolding heard
 heard_silent r es t h = rw (pick_true (r.place == places) _ _ h) refl
 
-heard_note : (r : Row) (es : List Event) (t : ℕ) → (r.place == places) ≡ false → heard (event_in r ∷ es) t ≡ heard_at r t ∷ heard es (t + r.length)
+pub heard_note : (r : Row) (es : List Event) (t : ℕ) → (r.place == places) ≡ false → heard (event_in r ∷ es) t ≡ heard_at r t ∷ heard es (t + r.length)
 unfolding heard
 heard_note r es t h = rw (pick_false (r.place == places) _ _ h) refl
+
+-- the words of a note that can be written are in range
+pub note_in : (r : Row) → fine (event_in r) ≡ true → (r.place == places) ≡ false → (r.place < places) × (r.alteration < alterations) × (r.length < length_end)
+note_in r f h = note_fields _ _ _ (ap fine (sym (pick_false (r.place == places) _ _ h)) ∙ f)
 
 -- the notes that are left behind a row
 abbrev pub After : Notes → Row → Rows → Notes
@@ -62,7 +66,7 @@ came {n} {r} {rest} p s =
       playable = record { even = s.1 p.even; fines = all.1; short = omega (arith, t, l, p.short) };
       fewer = ap length comes;
       over_silence = λ h. sym (ap (λ (es : List Event). heard es n.tick) first ∙ heard_silent r left n.tick h);
-      fields = λ h. note_fields _ _ _ (ap fine (sym (pick_false (r.place == places) _ _ h)) ∙ all.0);
+      fields = note_in r all.0;
       gives = λ x h e. record {
         same_voice = refl;
         gives = (ap (λ (y : ℕ × Heard). y.0) e, note_first h ∙ ap (λ (y : ℕ × Heard). y.1 ∷ heard_yet (After n r rest)) (sym e));

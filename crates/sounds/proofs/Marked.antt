@@ -48,7 +48,7 @@ module _ (ns ps xs ds : List ℕ) (laid : Laid ns ps xs ds) (k : ℕ) where
   abbrev own : List ℕ → List ℕ
   own = part ns k
 
-  in_rows : Es ≡ voice_of (own ps) (own xs) (own ds)
+  pub in_rows : Es ≡ voice_of (own ps) (own xs) (own ds)
   in_rows =
       voice_dealt ns (voice_of ps xs ds) k ∙ ap (take (get_or ns k 0)) (voice_drop (sum (take k ns)) ps xs ds)
       ∙ voice_take (get_or ns k 0) (drop (sum (take k ns)) ps) (drop (sum (take k ns)) xs) (drop (sum (take k ns)) ds)
@@ -59,20 +59,22 @@ module _ (ns ps xs ds : List ℕ) (laid : Laid ns ps xs ds) (k : ℕ) where
   pub part_short : sum (own ds) < ticks_end
   part_short = subst (λ (n : ℕ). n < ticks_end) (total_sum Es ∙ ap sum lengths_are) (short_voice (score_in ns ps xs ds) k laid.short)
 
-  -- One voice more, of which r events are passed over; those have so many ticks.
+  -- events that are passed over have so many ticks
+  ticks_are : (r : ℕ) → total (take r Es) ≡ sum (take r (own ds))
+  ticks_are r = total_sum (take r Es) ∙ ap sum (sym (take-map lasts r Es)) ∙ ap (λ (ws : List ℕ). sum (take r ws)) lengths_are
+
+  -- what is heard from tick a on is heard behind the events that begin before it
+  pub heard_behind : (a e r : ℕ) → r ≡ passed a 0 (own ds) → begins k a e (heard Es 0) ≡ until k e (heard (drop r Es) (sum (take r (own ds))))
+  heard_behind a e r passes =
+      begins_passed k a e 0 Es
+      ∙ ap (λ (i : ℕ). until k e (heard (drop i Es) (0 + total (take i Es)))) (ap (passed a 0) lengths_are ∙ sym passes)
+      ∙ ap (λ (i : ℕ). until k e (heard (drop r Es) i)) (zero-add (total (take r Es)) ∙ ticks_are r)
+
+  -- One voice more, of which r events are passed over.
   module _ (first E : ℕ) (cursors ms : List ℕ) (begin : ℕ) (there : k < length ns) (begins_at : begin ≡ sum (take k ns)) where
     module _ (r : ℕ) (passes : r ≡ passed (grain * first) 0 (own ds)) where
       abbrev tick : ℕ
       tick = sum (take r (own ds))
-
-      ticks_are : total (take r Es) ≡ tick
-      ticks_are = total_sum (take r Es) ∙ ap sum (sym (take-map lasts r Es)) ∙ ap (λ (ws : List ℕ). sum (take r ws)) lengths_are
-
-      row : begins k (grain * first) E (heard Es 0) ≡ until k E (heard (drop r Es) tick)
-      row =
-          begins_passed k (grain * first) E 0 Es
-          ∙ ap (λ (i : ℕ). until k E (heard (drop i Es) (0 + total (take i Es)))) (ap (passed (grain * first) 0) lengths_are ∙ sym passes)
-          ∙ ap (λ (i : ℕ). until k E (heard (drop r Es) i)) (zero-add (total (take r Es)) ∙ ticks_are)
 
       abbrev Ticks : List ℕ
       Ticks = note_ticks E tick (drop r (own ps)) (drop r (own ds))
@@ -90,7 +92,7 @@ module _ (ns ps xs ds : List ℕ) (laid : Laid ns ps xs ds) (k : ℕ) where
 
         ticks_rise : Rising (grain * first) E Ticks
         ticks_rise =
-            let m : tick % grain ≡ 0 = ap (λ (n : ℕ). n % grain) (sym ticks_are) ∙ total_three (take r Es) (fine_parts r Es all_fine_voice).0 in
+            let m : tick % grain ≡ 0 = ap (λ (n : ℕ). n % grain) (sym (ticks_are r)) ∙ total_three (take r Es) (fine_parts r Es all_fine_voice).0 in
             let up : Rising tick E Ticks = subst (Rising tick E) row_starts (rising_starts k E tick (drop r Es) (fine_parts r Es all_fine_voice).1 m) in
             elim (cases_lt r (length (own ds))) [
               | inl l ↦ rising_later (grain * first) tick E Ticks (reaches l) up
@@ -113,7 +115,7 @@ module _ (ns ps xs ds : List ℕ) (laid : Laid ns ps xs ds) (k : ℕ) where
           own_left : left ns ps xs ds E Cursors k ≡ until k E (heard (drop r Es) tick)
           own_left =
               let i : get_or Cursors k 0 - sum (take k ns) ≡ r = omega (arith, own_cursor) in
-              ap (λ (n : ℕ). until k E (from_event Es n)) i ∙ ap (λ (n : ℕ). until k E (heard (drop r Es) n)) ticks_are
+              ap (λ (n : ℕ). until k E (from_event Es n)) i ∙ ap (λ (n : ℕ). until k E (heard (drop r Es) n)) (ticks_are r)
 
           other_left : (u : ℕ) → (u ≡ k → ⊥) → left ns ps xs ds E Cursors u ≡ left ns ps xs ds E cursors u
           other_left u ne = ap (λ (n : ℕ). until u E (from_event (voice (score_in ns ps xs ds) u) (n - sum (take u ns)))) (get_or-set_other cursors k u (begin + r) 0 ne)
@@ -133,7 +135,7 @@ module _ (ns ps xs ds : List ℕ) (laid : Laid ns ps xs ds) (k : ℕ) where
           marked_more = record {
             whole =
                 each_voice (λ u. left ns ps xs ds E Cursors u ≡ begins u (grain * first) E (heard (voice (score_in ns ps xs ds) u) 0))
-                (own_left ∙ sym row)
+                (own_left ∙ sym (heard_behind (grain * first) E r passes))
                 (λ u l. other_left u (λ q. omega arith) ∙ before.whole u l);
             told =
                 each_voice (λ u. starts (left ns ps xs ds E Cursors u) ≡ begun u (grain * first) Then)

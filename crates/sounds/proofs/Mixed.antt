@@ -11,7 +11,7 @@ unfoldable pub From : ℕ → Row → Type 0
 From t [] = Unit {0}
 From t (x ∷ xs) = t ≤ x.1.start
 
-merged_nil : (n : ℕ) (xs : Row) → merged n xs [] ≡ xs
+pub merged_nil : (n : ℕ) (xs : Row) → merged n xs [] ≡ xs
 unfolding merged
 merged_nil zero xs = append-nil xs
 merged_nil (suc n) [] = refl

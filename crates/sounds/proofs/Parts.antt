@@ -123,7 +123,7 @@ part_long ns u ws there fitting =
 
 -- ---- what begins in a span
 
-until_late : (u e t : ℕ) (es : List Event) → e ≤ t → until u e (heard es t) ≡ []
+pub until_late : (u e t : ℕ) (es : List Event) → e ≤ t → until u e (heard es t) ≡ []
 unfolding until heard
 until_late u e t [] h = refl
 until_late u e t (silence d ∷ es) h = until_late u e (t + d) es (omega arith)

@@ -115,9 +115,40 @@ impl Voices<'_> {
         ensures wrote { out.new ≡ sounds_bytes (together (score_in self.entry) 0 from to) ++ drop (8 * result) out.old }
         ensures many { result ≡ length (together (score_in self.entry) 0 from to) }
     {
+        if let [_] = self.counts {
+            return self.write_alone(from, to, out);
+        }
         let mut slots = Slots::of(from, to);
         let cursors = self.mark(&mut slots);
         self.write(&slots, cursors, out)
+    }
+
+    /// Writes the notes of the only voice that begin from a tick up to before another: there is nothing to merge. Returns how many they are.
+    fn write_alone(self, from: u32, to: u32, out: &mut [u8]) -> usize
+        requires alone { length self.counts.now ≡ 1 }
+        requires room { 8 * all_events (score_in self) ≤ length out.old }
+        ensures wrote { out.new ≡ sounds_bytes (together (score_in self.entry) 0 from to) ++ drop (8 * result) out.old }
+        ensures many { result ≡ length (together (score_in self.entry) 0 from to) }
+    {
+        let end = self.counts[0] as usize;
+        let bars = &self.onsets.bars[..end];
+        let ticks = &self.onsets.ticks[..end];
+        let Some((first, mut tick)) = reach(bars, ticks, self.measure, from as usize) else {
+            return 0;
+        };
+        let mut count = 0;
+        for at in first..end {
+            if tick >= to as usize {
+                return count;
+            }
+            let row = self.rows.row(at);
+            if !row.is_silent() {
+                sound_of(row, 0, tick as u32).write(&mut out[Sound::SIZE * count..]);
+                count += 1;
+            }
+            tick += row.length as usize;
+        }
+        count
     }
 
     /// Writes the notes that slots tell of: slot by slot, and in each the voices in order; a cursor says which event comes next in its voice. Returns how many

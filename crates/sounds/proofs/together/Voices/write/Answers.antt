@@ -9,6 +9,7 @@ use Rattle.sounds.specs.Spans.{grain}
 use Rattle.sounds.specs.Scores.{end_of}
 use Rattle.sounds.proofs.Turned.{Turned}
 use Rattle.sounds.proofs.Writing.{Writing, writing_next, writing_room, writing_turn, writing_slot, writing_all}
+use Rattle.sounds.proofs.Written.{none_written}
 use Rattle.sounds.proofs.Passing.{next_used, none_used}
 use Rattle.sounds.proofs.together.Voices.write.Goals as goal
 use Rattle.sounds.proofs.together.Voices.write.Goals.{In-Some, After-next_note-at}
@@ -30,7 +31,7 @@ turn c = writing_next c.args.self.laid c.voices.invariant.writing c.voices-test.
 pub voices-init : goal.voices-init
 voices-init c =
     let w = rw (← c.voices_in-voices.ensures) at (used (goal.at.voices-init c).In-Some) in
-    record { writing = record { ready = w.ready; enough = w.enough; front = refl; back = refl; more = omega arith; many = refl }; small = omega arith }
+    record { writing = record { ready = w.ready; enough = w.enough; written = none_written _ _ _ }; small = omega arith }
 
 pub next_note-at-requires : goal.next_note-at-requires
 next_note-at-requires c =
