@@ -1,14 +1,13 @@
 -- A voice that is alone: its notes are heard together as they come, one event after the other, and are written so. Assumes nothing.
-use Rattle.std.proofs.Common.{◌≡◌, ℕ, suc, ◌+◌, ◌-◌, ◌*◌, ◌^◌, ◌<◌, ◌≤◌, true, false, List, [], ◌∷◌, ◌++◌, ◌==◌, length, get_or, take, drop, sum, sym, refl, ap, ap₂, ◌∙◌, subst, drop-cons, arith}
+use Rattle.std.proofs.Common.{◌≡◌, ℕ, suc, ◌+◌, ◌-◌, ◌*◌, ◌<◌, ◌≤◌, true, false, List, ◌∷◌, ◌++◌, ◌==◌, length, get_or, take, drop, sum, sym, refl, ap, ap₂, ◌∙◌, subst, drop-cons, arith}
 use borrow.Rule.Slice.PartMut.{put_mid}
 use Rattle.std.proofs.lemmas.List.{drop_all, length-take, get_or-take}
 use Rattle.std.proofs.lemmas.Bool.{and_parts, lt-ltb}
 use Rattle.score.specs.Music.{places, alterations, length_end, Event, Heard, heard, fine, all_fine}
-use Rattle.score.specs.Calls.{Score, ticks_end, voice, begins, all_events, together}
+use Rattle.score.specs.Calls.{Score, voice, begins, together}
 use Rattle.score.proofs.Picks.{pick_true}
 use Rattle.laws.specs.Rows.{voice_of}
 use Rattle.memory.proofs.Scores.{fines_voice, fine_parts}
-use Rattle.memory.proofs.Fields.{few_together}
 use Rattle.rows.specs.declared.Row.{Row as Words}
 use Rattle.rows.specs.Rows.{event_in}
 use Rattle.wire.specs.Bytes.{sound_bytes, sounds_bytes}
@@ -44,6 +43,22 @@ comes_in i ps xs ds l x d =
 until_next : (e : ℕ) (h : Heard) (hs : List Heard) → h.start < e → until 0 e (h ∷ hs) ≡ (0, h) ∷ until 0 e hs
 unfolding until
 until_next e h hs l = pick_true _ _ _ (lt-ltb _ _ l)
+
+-- from an event at tick e or later on no more is heard before it
+module _ {ns ps xs ds : List ℕ} {e : ℕ} {all : Row} {came out : List ℕ} {n i t : ℕ} (w : Along ns ps xs ds e all came out n i t) where
+  abbrev IsAll : Type 0
+  IsAll = (out ≡ sounds_bytes all ++ drop (8 * n) came) × (n ≡ length all)
+
+  pub along_late : e ≤ t → IsAll
+  along_late l = all_written w.written (until_late 0 e t (drop i (voice (score_in ns ps xs ds) 0)) l)
+
+  -- nor behind the last
+  pub along_behind : get_or ns 0 0 ≤ i → IsAll
+  unfolding until heard
+  along_behind l =
+      let few = ap length (voice_dealt ns (voice_of ps xs ds) 0) in
+      let none = drop_all i (voice (score_in ns ps xs ds) 0) (omega (arith, few, length-take (get_or ns 0 0) (voice_of ps xs ds))) in
+      all_written w.written (ap (λ (es : List Event). until 0 e (heard es t)) none)
 
 module _ {ns ps xs ds : List ℕ} (laid : Laid ns ps xs ds) (alone : length ns ≡ 1) where
   abbrev S : Score
@@ -91,16 +106,11 @@ module _ {ns ps xs ds : List ℕ} (laid : Laid ns ps xs ds) (alone : length ns �
         ∙ comes_in i (part ns 0 ps) (part ns 0 xs) (part ns 0 ds) (omega (arith, long, d)) x d
         ∙ ap₂ (λ (v : Words) (es : List Event). event_in v ∷ es) own behind
 
-    time_more : (t + r.length ≡ sum (take (i + 1) (part ns 0 ds))) × (t + r.length < ticks_end)
-    time_more =
+    later : t + r.length ≡ sum (take (i + 1) (part ns 0 ds))
+    later =
         let more = ticks_more i (part ns 0 ds) (omega (arith, long)) in
         let u = get_or-take count ds i 0 there in
-        let l = ap (λ (v : Words). v.length) is in
-        let short = part_short ns ps xs ds laid 0 in
-        (omega (arith, w.time, more.0, u, l), omega (arith, w.time, more.0, more.1, u, l, short))
-
-    pub along_short : t + r.length < 2 ^ 32
-    along_short = omega (arith, time_more.1)
+        let l = ap (λ (v : Words). v.length) is in omega (arith, w.time, more.0, u, l)
 
     -- a silence is passed
     pub along_silence : (r.place == places) ≡ true → Along ns ps xs ds e all came out n (i + 1) (t + r.length)
@@ -109,7 +119,7 @@ module _ {ns ps xs ds : List ℕ} (laid : Laid ns ps xs ds) (alone : length ns �
           subst (Written came 0 all out n)
           (ap (λ (es : List Event). until 0 e (heard es t)) comes ∙ ap (until 0 e) (heard_silent r (drop (i + 1) Es) t h))
           w.written;
-      time = time_more.0;
+      time = later;
     }
 
     module _ (h : (r.place == places) ≡ false) where
@@ -125,27 +135,15 @@ module _ {ns ps xs ds : List ℕ} (laid : Laid ns ps xs ds) (alone : length ns �
             w.written
 
         -- there is room for a note
-        pub along_room : (a room : ℕ) → all ≡ together S 0 a e → 8 * all_events S ≤ room → 8 * n + 8 ≤ room
-        along_room a room q l = omega (arith, next.many, ap length q, few_together S 0 a e, l)
+        pub along_room : n < length all
+        along_room = omega (arith, next.many)
 
         -- and it is written
         pub along_note :
             {note : ℕ × Heard} {k : ℕ} (last : List ℕ) → 8 * n ≤ length out → note ≡ (0, heard_at r t) → k ≡ 8
             → last ≡ sound_bytes note ++ drop k (take (length out - 8 * n) (drop (8 * n) out))
             → Along ns ps xs ds e all came (put_mid (8 * n) (length out - 8 * n) out last) (n + 1) (i + 1) (t + r.length)
-        along_note last l y eight q = record { written = next_written last next l y eight q; time = time_more.0 }
-
-  -- from the first event at tick e or later on no more is heard before it
-  module _ {e : ℕ} {all : Row} {came out : List ℕ} {n i t : ℕ} (w : Along ns ps xs ds e all came out n i t) where
-    pub along_late : e ≤ t → (out ≡ sounds_bytes all ++ drop (8 * n) came) × (n ≡ length all)
-    along_late l = all_written w.written (until_late 0 e t (drop i Es) l)
-
-    -- nor behind the last
-    pub along_behind : count ≤ i → (out ≡ sounds_bytes all ++ drop (8 * n) came) × (n ≡ length all)
-    unfolding until heard
-    along_behind l =
-        let none : drop i Es ≡ [] = drop_all i Es (omega (arith, ap length (voice_dealt ns (voice_of ps xs ds) 0), length-take count (voice_of ps xs ds))) in
-        all_written w.written (ap (λ (es : List Event). until 0 e (heard es t)) none)
+        along_note last l y eight q = record { written = next_written last next l y eight q; time = later }
 
   -- the first event is found
   module _ {m : ℕ} {bs ts : List ℕ} (timed : AllTimed ns ds m bs ts) where

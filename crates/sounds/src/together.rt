@@ -126,7 +126,7 @@ impl Voices<'_> {
     /// Writes the notes of the only voice that begin from a tick up to before another: there is nothing to merge. Returns how many they are.
     fn write_alone(self, from: u32, to: u32, out: &mut [u8]) -> usize
         requires alone { length self.counts.now ≡ 1 }
-        requires room { 8 * all_events (score_in self) ≤ length out.old }
+        requires room { 8 * length (together (score_in self) 0 from to) ≤ length out.old }
         ensures wrote { out.new ≡ sounds_bytes (together (score_in self.entry) 0 from to) ++ drop (8 * result) out.old }
         ensures many { result ≡ length (together (score_in self.entry) 0 from to) }
     {

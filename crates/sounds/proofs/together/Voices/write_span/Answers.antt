@@ -15,6 +15,9 @@ whole c =
     c.mark-cursors.ensures.whole
     ∙ span_heard (score_in c.args.self) c.args.from c.args.to c.of-slots.result.first c.of-slots.result.count c.args.self.laid.fines c.of-slots.ensures.first c.of-slots.ensures.count
 
+pub write_alone-requires-clause-room : goal.write_alone-requires-clause-room
+write_alone-requires-clause-room c = omega (arith, c.requires.room, few_together (score_in c.args.self) 0 c.args.from c.args.to)
+
 pub write-requires-clause-room : goal.write-requires-clause-room
 write-requires-clause-room c =
     let all = ap length (whole (goal.at.write-requires-clause-room c).After-mark-cursors) in
