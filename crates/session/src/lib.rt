@@ -177,6 +177,47 @@ mod tests {
         shows(&rt, &mut words, &mut bytes)
     }
 
+    // c4 and, behind a silence, e4 are put into the last of so many voices, and heard.
+    fn hears(rt: &impl Abort, words: &mut [u32], bytes: &mut [u8], voices: u8) -> Result<(), Fail> {
+        let opening = Opening {
+            key: 7,
+            bar: 96,
+            voices: voices as u32,
+            events: 3,
+        };
+        let Ok(()) = open(words, bytes, opening) else {
+            return Err(Fail::new("a score is opened"));
+        };
+        let v = voices.saturating_sub(1);
+        let c = [0, v, 0, 0, 0, 0, 0, 0, 0, 0, 28, 2, 48, 0];
+        assert_eq!(rt; call(words, bytes, &c), 1);
+        let silence = [0, v, 0, 0, 0, 1, 0, 0, 0, 1, 0, 0, 48, 0];
+        assert_eq!(rt; call(words, bytes, &silence), 1);
+        let e = [0, v, 0, 0, 0, 2, 0, 0, 0, 0, 30, 2, 96, 0];
+        assert_eq!(rt; call(words, bytes, &e), 1);
+        let all = [4, 0, 0, 0, 0, 0, 6, 0, 0];
+        let sounds = [
+            3, 2, 0, 0, 0, v, 50, 0, 0, 0, 0, 48, 0, v, 54, 96, 0, 0, 0, 96, 0,
+        ];
+        assert_eq!(rt; call(words, bytes, &all), 21);
+        assert!(rt; bytes.starts_with(&sounds));
+        let between = [4, 1, 0, 0, 0, 96, 0, 0, 0];
+        assert_eq!(rt; call(words, bytes, &between), 5);
+        assert!(rt; bytes.starts_with(&[3, 0, 0, 0, 0]));
+        let behind = [4, 97, 0, 0, 0, 97, 6, 0, 0];
+        assert_eq!(rt; call(words, bytes, &behind), 5);
+        assert!(rt; bytes.starts_with(&[3, 0, 0, 0, 0]));
+        Ok(())
+    }
+
+    #[test]
+    fn one_voice_and_several_are_heard(rt: HostRuntime) -> Result<(), Fail> {
+        let mut words = vec![in rt.alloc(); 0; 29]?;
+        let mut bytes = vec![in rt.alloc(); 0; 262168]?;
+        hears(&rt, &mut words, &mut bytes, 1)?;
+        hears(&rt, &mut words, &mut bytes, 3)
+    }
+
     #[test]
     fn too_little_memory_is_refused(rt: HostRuntime) {
         let opening = Opening {
