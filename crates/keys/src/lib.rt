@@ -12,10 +12,8 @@ use std::array;
 /// The key without signs: those above it have sharps, those below it flats.
 const PLAIN: u32 = 7;
 
-/// Half tones in an octave, and from c up to each of its steps.
+/// Half tones in an octave.
 const OCTAVE: u64 = 12;
-
-const HALF_TONES: [u64; 7] = [0, 2, 4, 5, 7, 9, 11];
 
 /// Which tone a place sounds when it is altered so, in half tones.
 #[tactic(auto, unfolding(score::specs::Music::of_step))]
@@ -23,9 +21,8 @@ pub fn tone(place: u32, alteration: u32) -> u64
     ensures is { result ≡ tone_of place alteration }
     ensures small { place < places → alteration < alterations → result < 128 }
 {
-    OCTAVE * (place / STEPS as u32) as u64
-        + HALF_TONES[(place % STEPS as u32) as usize]
-        + alteration as u64
+    // the seven steps, 0, 2, 4, 5, 7, 9 and 11 half tones above c, lie as evenly in an octave as can be, so one division finds each, and no table is needed
+    (OCTAVE * place as u64 + 5) / STEPS as u64 + alteration as u64
 }
 
 /// How a key alters a place: 1 by a flat, 2 not, 3 by a sharp (alterations are numbers, see `Event`), for which it alters a few steps in all octaves.
