@@ -79,8 +79,8 @@ module _ {ns ps xs ds : List ℕ} (laid : Laid ns ps xs ds) (alone : length ns �
   long : length (part ns 0 ds) ≡ count
   long = part_long ns 0 ds (omega arith) (omega (arith, laid.fitting, laid.lengths_too))
 
-  fines : all_fine Es ≡ true
-  fines = fines_voice S 0 laid.fines
+  rows_left : (k : ℕ) → drop k Es ≡ voice_of (drop k (part ns 0 ps)) (drop k (part ns 0 xs)) (drop k (part ns 0 ds))
+  rows_left k = ap (drop k) (in_rows ns ps xs ds laid 0) ∙ voice_drop k (part ns 0 ps) (part ns 0 xs) (part ns 0 ds)
 
   -- before the first event from tick a on
   pub along_first : {a e m : ℕ} {came : List ℕ} → Came a (part ns 0 ds) m → {t : ℕ} → t ≡ sum (take m (part ns 0 ds)) → Along ns ps xs ds e (together S 0 a e) came came 0 m t
@@ -100,11 +100,11 @@ module _ {ns ps xs ds : List ℕ} (laid : Laid ns ps xs ds) (alone : length ns �
         let u = get_or-take count ds i 0 there in
         let s : suc i ≡ i + 1 = omega arith in
         let own : record { place = get_or (part ns 0 ps) i 0; alteration = get_or (part ns 0 xs) i 0; length = get_or (part ns 0 ds) i 0 } ≡ r = cc in
-        let behind : voice_of (drop (suc i) (part ns 0 ps)) (drop (suc i) (part ns 0 xs)) (drop (suc i) (part ns 0 ds)) ≡ drop (i + 1) Es =
-        sym (ap (drop (suc i)) (in_rows ns ps xs ds laid 0) ∙ voice_drop (suc i) (part ns 0 ps) (part ns 0 xs) (part ns 0 ds)) ∙ ap (λ (k : ℕ). drop k Es) s in
-        ap (drop i) (in_rows ns ps xs ds laid 0) ∙ voice_drop i (part ns 0 ps) (part ns 0 xs) (part ns 0 ds)
-        ∙ comes_in i (part ns 0 ps) (part ns 0 xs) (part ns 0 ds) (omega (arith, long, d)) x d
-        ∙ ap₂ (λ (v : Words) (es : List Event). event_in v ∷ es) own behind
+        rows_left i ∙ comes_in i (part ns 0 ps) (part ns 0 xs) (part ns 0 ds) (omega (arith, long, d)) x d
+        ∙ ap₂ (λ (v : Words) (es : List Event). event_in v ∷ es) own (sym (rows_left (suc i)) ∙ ap (λ (k : ℕ). drop k Es) s)
+
+    on : (hs : List Heard) → heard (event_in r ∷ drop (i + 1) Es) t ≡ hs → Written came 0 all out n (until 0 e hs)
+    on hs h = subst (Written came 0 all out n) (ap (λ (es : List Event). until 0 e (heard es t)) comes ∙ ap (until 0 e) h) w.written
 
     later : t + r.length ≡ sum (take (i + 1) (part ns 0 ds))
     later =
@@ -114,25 +114,16 @@ module _ {ns ps xs ds : List ℕ} (laid : Laid ns ps xs ds) (alone : length ns �
 
     -- a silence is passed
     pub along_silence : (r.place == places) ≡ true → Along ns ps xs ds e all came out n (i + 1) (t + r.length)
-    along_silence h = record {
-      written =
-          subst (Written came 0 all out n)
-          (ap (λ (es : List Event). until 0 e (heard es t)) comes ∙ ap (until 0 e) (heard_silent r (drop (i + 1) Es) t h))
-          w.written;
-      time = later;
-    }
+    along_silence h = record { written = on _ (heard_silent r (drop (i + 1) Es) t h); time = later }
 
     module _ (h : (r.place == places) ≡ false) where
       pub along_fields : (r.place < places) × (r.alteration < alterations) × (r.length < length_end)
       unfolding all_fine
-      along_fields = note_in r (and_parts (fine (event_in r)) _ (sym (ap all_fine comes) ∙ (fine_parts i Es fines).1)).0 h
+      along_fields = note_in r (and_parts (fine (event_in r)) _ (sym (ap all_fine comes) ∙ (fine_parts i Es (fines_voice S 0 laid.fines)).1)).0 h
 
       module _ (early : t < e) where
         next : Written came 0 all out n ((0, heard_at r t) ∷ yet Es e (i + 1) (t + r.length))
-        next =
-            subst (Written came 0 all out n)
-            (ap (λ (es : List Event). until 0 e (heard es t)) comes ∙ ap (until 0 e) (heard_note r (drop (i + 1) Es) t h) ∙ until_next e (heard_at r t) _ early)
-            w.written
+        next = subst (Written came 0 all out n) (until_next e (heard_at r t) _ early) (on _ (heard_note r (drop (i + 1) Es) t h))
 
         -- there is room for a note
         pub along_room : n < length all
