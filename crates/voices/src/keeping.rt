@@ -66,15 +66,13 @@ fn behind(bar: u32, ticks: u32, measure: u32) -> (u32, u32)
     ensures bar { result.0 ≡ bar + ticks / measure }
     ensures tick { result.1 ≡ ticks % measure }
 {
-    if ticks / 2 >= measure {
-        return (bar + ticks / measure, ticks % measure);
+    // no branch between this bar and the next, which a processor could not foresee: what is less than nothing wraps to more than any bar has
+    let rest = ticks.min(ticks.wrapping_sub(measure));
+    if rest < measure {
+        (bar + (ticks >= measure) as u32, rest)
+    } else {
+        (bar + ticks / measure, ticks % measure)
     }
-    // no branch: a processor could not foresee it
-    let over = ticks >= measure;
-    (
-        bar + over as u32,
-        if over { ticks - measure } else { ticks },
-    )
 }
 
 /// Derives anew where the marked events begin. The first of them is at a place, and begins at a tick of a bar where the key holds.
