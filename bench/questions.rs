@@ -35,7 +35,7 @@ fn ask(rounds: usize, voices: usize, events: usize, what: &'static str, call: Ca
     assert_eq!(library::call(&mut words, &mut bytes, &input), answer.len() as i64);
     assert_eq!(bytes[..answer.len()], answer);
     let bare_score = Bare::new(&score);
-    let (mut copied, mut written) = (vec![0; answer.len()], vec![0; answer.len() + 24]);
+    let (mut copied, mut written) = (vec![0; answer.len()], vec![0; answer.len()]);
     let items = bare_score.answer(call, &mut written);
     assert_eq!((items as u32).to_le_bytes(), answer[1..5]);
     assert_eq!(written[..answer.len() - 5], answer[5..]);
