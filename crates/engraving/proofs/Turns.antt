@@ -65,12 +65,14 @@ part_turn b o d p g h b3 o3 d3 =
     go (inl e) = inl (omega (arith, g.is))
     go (inr e) = inr (omega (arith, g.is))
 
+-- it begins where the bar stands, and its values are those of what the bar takes
 pub part_begins : (b o p d q s : ℕ) (es : List Event) (sg : List ℕ) (n : ℕ) → q ≤ d → in_event b o p s d es sg n ≡ in_event b (tick (o + q) (d - q) d) p s d es sg n
 part_begins b o p d q s es sg n h = let t : o ≡ tick (o + q) (d - q) d = omega arith in ap (λ (x : ℕ). in_event b x p s d es sg n) t
 
 pub part_values : (d q m : ℕ) → m ≡ q → q ≤ d → pieces m m ≡ pieces (d - (d - q)) (d - (d - q))
 part_values d q m e h = let t : m ≡ d - (d - q) = omega arith in ap (λ (x : ℕ). pieces x x) t
 
+-- what is left of event and bar is what is left of the part
 least : (b e k d : ℕ) → Part b e k d → lesser d (b - tick e k d) ≡ d - k
 least b e k d w = go w.ends
   where
@@ -114,6 +116,7 @@ values_turn b e k d us w q f =
     let z : d - k ≡ 0 = values_over (d - k) (sym q ∙ f) (omega (arith, w.behind, w.left_three, w.behind_three)) in
     omega (arith, w.behind)
 
+-- and then the bar stands where the part ends
 pub part_over : (b e k p s d : ℕ) (es : List Event) (sg : List ℕ) (n : ℕ) → d ≡ k → in_event b (tick e k d) p s d es sg n ≡ in_event b e p s d es sg n
 part_over b e k p s d es sg n h = let t : tick e k d ≡ e = omega arith in ap (λ (x : ℕ). in_event b x p s d es sg n) t
 
@@ -192,7 +195,7 @@ pub middle_turn : {es fs : List Event} {w : Row} (b o g i : ℕ) (ss : List ℕ)
 middle_turn {es} {fs} {w} b o g i ss n q l h y =
     left_turn b o g i ss n q l h ∙ ap (λ (s : ℕ). in_event b o w.place s (w.length - g) fs (drop (i + 1) ss) n) (pick_false _ _ _ (ne_eqb g 0 y))
 
--- all have
+-- behind the last event nothing is owed
 pub no_event : (b t o : ℕ) (sg : List ℕ) (r : Rows) (i n : ℕ) → length r.lengths.now ≤ i → length r.places.now ≡ length r.lengths.now → in_voice b t o (events_from r i) sg n ≡ []
 unfolding in_voice rest_from
 no_event b t o sg r i n h e = ap (λ (es : List Event). so_many (rest_from b t o es sg) n) (voice_end r.places.now r.alterations.now r.lengths.now i h e) ∙ so_many_end n
