@@ -23,7 +23,8 @@ unfoldable pub rows_set : List ℕ → ℕ → ℕ → ℕ → ℕ → ℕ → �
 rows_set w m n j p a d = slice_set (slice_set (slice_set w (m + j) p) (m + n + j) a) (m + n + n + j) d
 
 -- The same in words that hold a score, for voice v, whose count and ticks are written: an event comes in at place j of the u in use, or goes out there,
--- or becomes another; t is how long the voice is then. Where an event begins on paper comes in or goes out at place q, the last of the voice.
+-- or becomes another; t is how long the voice is then. Where an event begins on paper comes in, as zeros,
+-- or goes out at place q, the last of the voice.
 unfoldable pub with_event : List ℕ → ℕ → ℕ → ℕ → ℕ → ℕ → ℕ → ℕ → ℕ → List ℕ
 with_event w v u j q t p a d =
     rows_in (slice_set (slice_set (rows_in w (places_from w) (limit_in w) u j p a d) (counts_from + v) (slice_index w (counts_from + v) + 1)) (ticks_from w + v) t) (bars_from w) (limit_in w) u q 0 0 0

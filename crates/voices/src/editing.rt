@@ -60,8 +60,8 @@ fn remove_row(words: &mut [u32], begin: usize, limit: usize, used: usize, at: us
     remove_at(words, last + at, last + used);
 }
 
-/// An event comes in at a place, into a voice that ends at another and is then so many ticks long. Where events begin on paper is derived anew from that one
-/// on, so of this nothing is moved but what is other voices'.
+/// An event comes in at a place, into a voice that ends at another and is then so many ticks long. Where the voice's events begin on paper is derived anew
+/// behind the event, so of that only other voices' words are moved.
 fn insert_event(
     words: &mut [u32],
     voice: usize,
