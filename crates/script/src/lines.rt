@@ -1,5 +1,5 @@
 //! The lines of a text that say something.
-ghost use Rattle.std.specs.Prelude.{◌≡◌, ◌<◌, ◌∷◌, ◌==◌, length, drop, position};
+ghost use Rattle.std.specs.Prelude.{◌≡◌, ◌<◌, [], ◌∷◌, ◌==◌, length, drop, Some, None, position};
 ghost use Rattle.std.specs.Iterator.{YieldsFirstRef, item_count};
 ghost use Rattle.script.specs.Lines.{line_end, all_lines, says, lines, lines_in};
 ghost use Rattle.script.specs.Script.{with_rest, setting_in, opening_in, left_by_opening};
@@ -34,6 +34,21 @@ fn says_something(line: &[u8]) -> bool
         [] | [b';', ..] => false,
         _ => true,
     }
+}
+
+/// The next line that says something, and what is behind it.
+pub fn next_line(text: &[u8]) -> Option<(&[u8], &[u8])>
+    ensures { elim result [ Some v ↦ (lines text.now ≡ v.0.now ∷ lines v.1.now) × (length v.1.now < length text.now) | None ↦ lines text.now ≡ [] ] }
+{
+    let mut rest = text;
+    while !rest.is_empty() {
+        let (line, more) = cut_line(rest);
+        if says_something(line) {
+            return Some((line, more));
+        }
+        rest = more;
+    }
+    None
 }
 
 /// The lines of a text that say something and have not been given yet, front to back.
@@ -81,13 +96,12 @@ impl<'a> Iterator for Lines<'a> {
     ghost remaining = { item_count lines_in };
 
     fn next(&mut self) -> Option<&'a [u8]> {
-        while !self.text.is_empty() {
-            let (line, rest) = cut_line(self.text);
-            self.text = rest;
-            if says_something(line) {
-                return Some(line);
-            }
-        }
-        None
+        let Some((line, rest)) = next_line(self.text) else {
+            // what says nothing there is passed over once
+            self.text = &[];
+            return None;
+        };
+        self.text = rest;
+        Some(line)
     }
 }
