@@ -16,8 +16,9 @@ use crate::{SERVED_EVENTS, SERVED_VOICES};
 use answers::spell_answer;
 use score::{Call, Opening, Refusal};
 use session::{Sizes, call, open};
+use spelling::spell_refusal;
 use std::alloc::Global;
-use text::read_call;
+use text::{UNREADABLE, read_call};
 use wire::{LONGEST_CALL, write_call};
 
 /// A score in words, the bytes in which it is answered, and the heap that answers are read into.
@@ -62,7 +63,8 @@ impl Desk {
     {
         match read_call(line) {
             Ok(asked) => self.answer_call(asked, out),
-            Err(unfit) => Ok(write!(out, "{unfit}")?),
+            // as an answer is spelled, so that the same is told where memory runs out
+            Err(unfit) => Ok(spell_refusal(UNREADABLE, unfit.at, out)?),
         }
     }
 

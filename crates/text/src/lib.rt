@@ -15,7 +15,7 @@ use words::{Read, read_one_of, read_place, read_spaced, read_word};
 
 /// The number under which a line that cannot be read stands in the list of refusals.
 // Not `Refusal::Unreadable`: its place has four bytes, and a line may be longer.
-const UNREADABLE: u8 = 1;
+pub const UNREADABLE: u8 = 1;
 
 /// The first byte of a line that does not fit, or its length where it ends too early.
 #[derive(Clone, Copy, PartialEq, Eq, Debug)]
