@@ -104,3 +104,10 @@ done n at left was out w e =
   where
     all : take at out ≡ pieces n n
     all = sym (append-nil (take at out)) ∙ ap (λ (xs : List ℕ). take at out ++ xs) (sym e) ∙ w.0
+
+-- as many as there are
+pub written : (n at left : ℕ) (was out : List ℕ) → Writing n at left was out → pieces left left ≡ [] → at ≡ length (pieces n n)
+unfolding Writing
+written n at left was out w e =
+    let f : length (take at out) + length (pieces left left) ≡ length (pieces n n) = sym (length-append (take at out) (pieces left left)) ∙ ap length w.0 in
+    omega (arith, length-take-le at out w.2, ap length e)

@@ -8,6 +8,9 @@ ghost use Rattle.score.specs.Print.{pieces as pieces_of};
 
 use score::SHORTEST;
 
+/// The values that can be drawn, in ticks: from the whole note down to the sixty-fourth, plain or with a dot.
+pub const VALUES: [u32; 12] = [192, 144, 96, 72, 48, 36, 24, 18, 12, 9, 6, 3];
+
 /// A whole note, in ticks: the largest value there is.
 const WHOLE: u32 = 192;
 
@@ -71,19 +74,18 @@ pub fn pieces(n: u32, out: &mut [u32]) -> usize
     ensures many { result ≡ length (pieces_of n n) }
     ensures few { result ≤ n / 192 + 3 }
 {
-    // by their index: of a zip with `out.iter_mut()` the loop's invariant knows the words that are left and not `out` (tried); and behind a `for` it is not known
-    // how many there were, so they are counted once more (no plainer by hand)
-    for (at, value) in ValuesOf(n).enumerate() {
+    // counted as they are written: of a zip with `out.iter_mut()` the loop's invariant knows the words that are left and not `out` (tried)
+    let mut at = 0;
+    for value in ValuesOf(n) {
         out[at] = value;
+        at += 1;
     }
-    ValuesOf(n).count()
+    at
 }
 
 #[cfg(test)]
 mod tests {
     use super::*;
-
-    const VALUES: [u32; 12] = [192, 144, 96, 72, 48, 36, 24, 18, 12, 9, 6, 3];
 
     // Each length of up to four whole notes has as few values as the best row of values, which is found here by way of all shorter lengths.
     #[test]

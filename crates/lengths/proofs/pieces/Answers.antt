@@ -1,21 +1,16 @@
 -- There is room for each value, and in the end all of them are written. Assumes nothing.
-use Rattle.std.proofs.Common.{◌≡◌, ◌<◌, ◌++◌, inl, length, drop, sym, refl, ap, ◌∙◌, arith, rules}
-use Rattle.std.proofs.lemmas.Iterator.Consumers.{YieldsList-from_first, count_from_yields_List}
+use Rattle.std.proofs.Common.{◌≡◌, ◌<◌, ◌++◌, length, drop, sym, refl, ap, ◌∙◌, arith, rules}
 use Rattle.score.specs.Print.{pieces}
-use Rattle.lengths.proofs.Drawing.{few, start, counted, room, write, done}
+use Rattle.lengths.proofs.Drawing.{few, start, room, write, done, written}
 use Rattle.lengths.proofs.pieces.Goals as goal
-use Rattle.lengths.proofs.pieces.Goals.{In-Some}
+use Rattle.lengths.proofs.pieces.Goals.{In-Some, In-None}
 
-pub loop-at-init : goal.loop-at-init
-loop-at-init c =
-    let w = start c.args.n c.into_iter-at-iterator.result.count c.into_iter-at-iterator.result.iter.0 c.args.out.now (search rules) (search rules) in
-    ((tt, tt, inl (omega (arith, counted _ _ _ _ _ w))), tt, w)
+pub loop-value-init : goal.loop-value-init
+loop-value-init c = start c.args.n 0 c.into_iter-value-iterator.result.0 c.args.out.now refl (search rules)
 
 -- there is room for the value that was found
-fits : (c : In-Some) → c.in-Some.at < length c.loop-at.out
-fits c =
-    let h = room c.args.n c.loop-at.at-iterator.count c.loop-at.at-iterator.iter.0 c.args.out.now c.loop-at.out _ _ c.loop-at.invariant.2 (omega arith) c.in-Some.ensures.steps.0 in
-    omega (arith, h, c.in-Some.ensures.steps.1)
+fits : (c : In-Some) → c.loop-value.at < length c.loop-value.out
+fits c = room c.args.n c.loop-value.at c.loop-value.value-iterator.0 c.args.out.now c.loop-value.out _ _ c.loop-value.invariant (omega arith) c.in-Some.ensures.steps
 
 pub offset_bounds-out-at : goal.offset_bounds-out-at
 offset_bounds-out-at c = let h = fits c in omega arith
@@ -23,21 +18,23 @@ offset_bounds-out-at c = let h = fits c in omega arith
 pub bounds-out-at : goal.bounds-out-at
 bounds-out-at c = fits c
 
-pub loop-at-preserved : goal.loop-at-preserved
-loop-at-preserved c =
-    let s = c.in-Some.ensures.steps in
-    let w = write c.args.n c.loop-at.at-iterator.count c.loop-at.at-iterator.iter.0 c.next.new.self.iter.0 c.args.out.now c.loop-at.out c.in-Some.value c.loop-at.invariant.2 (omega arith) s.0 in
-    let v = rw (← s.2, ← s.1) at w in
-    ((tt, tt, inl (omega (arith, counted _ _ _ _ _ v))), tt, v)
+pub overflow_add-at : goal.overflow_add-at
+overflow_add-at c = let h = fits c in omega arith
 
-pub count-requires-clause-fits : goal.count-requires-clause-fits
-count-requires-clause-fits c = inl (omega (arith, few c.args.n))
+pub loop-value-preserved : goal.loop-value-preserved
+loop-value-preserved c = write c.args.n c.loop-value.at c.loop-value.value-iterator.0 c.next.new.self.0 c.args.out.now c.loop-value.out c.in-Some.value c.loop-value.invariant (omega arith) c.in-Some.ensures.steps
 
-pub returns : goal.returns
-returns c =
-    let m : c.count.result ≡ length (pieces c.args.n c.args.n) = count_from_yields_List _ c.count.result c.count.ensures.ran (YieldsList-from_first (λ x. x) (λ s. pieces s.0 s.0) (pieces c.args.n c.args.n) refl) in
-    record {
-      wrote = done c.args.n _ _ c.args.out.now c.loop-at.out c.loop-at.invariant.2 c.in-None.ensures.steps.0.0 ∙ ap (λ i. pieces c.args.n c.args.n ++ drop i c.args.out.now) (sym m);
-      many = m;
-      few = omega (arith, few c.args.n);
-    }
+-- when no value is left, all are written
+many : (c : In-None) → c.loop-value.at ≡ length (pieces c.args.n c.args.n)
+many c = written c.args.n c.loop-value.at c.loop-value.value-iterator.0 c.args.out.now c.loop-value.out c.loop-value.invariant c.in-None.ensures.steps.0
+
+pub returns-clause-wrote : goal.returns-clause-wrote
+returns-clause-wrote c =
+    done c.args.n c.loop-value.at c.loop-value.value-iterator.0 c.args.out.now c.loop-value.out c.loop-value.invariant c.in-None.ensures.steps.0
+    ∙ ap (λ i. pieces c.args.n c.args.n ++ drop i c.args.out.now) (sym (many c))
+
+pub returns-clause-many : goal.returns-clause-many
+returns-clause-many c = many c
+
+pub returns-clause-few : goal.returns-clause-few
+returns-clause-few c = omega (arith, many c, few c.args.n)

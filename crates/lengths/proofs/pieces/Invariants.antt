@@ -2,7 +2,5 @@
 use Rattle.lengths.proofs.Drawing.{Writing}
 use Rattle.lengths.proofs.pieces.Given as goal
 
-abbrev pub invariant-loop-at : goal.invariant-loop-at
-invariant-loop-at l =
-    (goal.iterator-loop-at).can_next l.at-iterator × (goal.iterator-loop-at).is_finite l.at-iterator
-    × Writing l.n l.at-iterator.count l.at-iterator.iter.0 l.initial.out l.out
+abbrev pub invariant-loop-value : goal.invariant-loop-value
+invariant-loop-value l = Writing l.n l.at l.value-iterator.0 l.initial.out l.out
