@@ -1,7 +1,7 @@
 -- What words that hold a score have where. Assumes nothing.
 use Rattle.std.proofs.Common.{◌≡◌, ℕ, suc, ◌+◌, ◌-◌, ◌*◌, ◌<◌, ◌≤◌, true, List, [], ◌∷◌, ◌++◌, map, length, get_or, take, drop, replicate, sum_by, sum, sym, refl, ap, ◌∙◌, subst, ap₂, arith}
 use Rattle.std.specs.List.{between}
-use Rattle.std.proofs.lemmas.List.{append_assoc, append-nil, length-map, map-append, take-map, get_or-map, get_or-drop, get_or_append_left, get_or-append_right, take-append-le, take_all, take_at, drop_at, drop-drop}
+use Rattle.std.proofs.lemmas.List.{append_assoc, append-nil, length-map, map-append, take-map, get_or-map, get_or-drop, get_or_append_left, get_or-append_right, get_or_past, take-append-le, take_all, take_at, drop_at, drop-drop}
 use Rattle.std.proofs.lemmas.List.Sums.{sum-map, sum_by-cons, sum_by-take-le}
 use Rattle.score.specs.Music.{Event, silence, lasts, total, fine, all_fine, places, alterations, length_end}
 use Rattle.score.specs.Calls.{Limits, Layout, Score, voice, all_events}
@@ -285,6 +285,10 @@ module _ (w : List ℕ) (h : Holds w) where
         events = events_there v begin count lt eb ec2;
         kept_with = kept_there v begin count lt eb ec2;
       }
+
+  -- one that is not there has no events
+  pub no_voice : (v : ℕ) → voices_in w ≤ v → length (voice (score_of w) v) ≡ 0
+  no_voice v le = ap length (get_or_past (score_of w) v [] (omega (arith, h.proper.kept.so_many)))
 
   pub place_within : (v i : ℕ) → v < voices_in w → i < length (voice (score_of w) v) → all_events (take v (score_of w)) + i < all_events (score_of w)
   place_within v i lv li =

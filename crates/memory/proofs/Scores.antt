@@ -1,7 +1,7 @@
 -- Lemmas on scores and their events: how many, how long, and that they can be written. Assumes nothing.
 use Rattle.std.proofs.Common.{◌≡◌, ℕ, zero, suc, ◌+◌, ◌<◌, ◌≤◌, true, false, ◌&&◌, ltb, List, [], ◌∷◌, ◌++◌, length, get_or, take, drop, set, sym, refl, ap, ◌∙◌, arith}
 use Rattle.std.proofs.lemmas.List.{append_assoc, length-append, take-append-drop}
-use Rattle.std.proofs.lemmas.Bool.{and_parts, and_from, and_left, ltb-true, le-ltb}
+use Rattle.std.proofs.lemmas.Bool.{and_parts, and_from, and_left, and_right, ltb-true, lt-ltb, le-ltb}
 use Rattle.score.specs.Music.{Event, note, silence, lasts, total, fine, all_fine, places, alterations, length_end, fine_length}
 use Rattle.score.specs.Calls.{Score, voice, all_events, none_too_long, ticks_end}
 use Rattle.rows.specs.Rows.{stands, alters}
@@ -29,6 +29,18 @@ module _ (p a d : ℕ) where
   pub unfine_place : places ≤ p → fine (note p a d) ≡ false
   unfolding fine
   unfine_place h = and_left _ _ (and_left _ _ (le-ltb p places h))
+
+  pub unfine_alteration : alterations ≤ a → fine (note p a d) ≡ false
+  unfolding fine
+  unfine_alteration h = and_left _ _ (and_right _ _ (le-ltb a alterations h))
+
+  pub fine_by_length : p < places → a < alterations → fine (note p a d) ≡ fine_length d
+  unfolding fine
+  fine_by_length hp ha = ap (λ b. b && fine_length d) (and_from _ _ (lt-ltb p places hp) (lt-ltb a alterations ha))
+
+pub fine_silence : (d : ℕ) → fine (silence d) ≡ fine_length d
+unfolding fine
+fine_silence d = refl
 
 pub fine_append : (xs ys : List Event) → all_fine (xs ++ ys) ≡ (all_fine xs && all_fine ys)
 unfolding all_fine

@@ -7,6 +7,7 @@ use Rattle.score.specs.Music.{places, alterations, Event, note, silence, Heard, 
 use Rattle.score.specs.Print.{Symbol, bar, head, rest, key, Chunk, value, line, chunks, heads, rests, print, printed, read_from, from_bar, so_many}
 use Rattle.score.proofs.Picks.{pick_false, pick_both}
 use Rattle.laws.specs.Owed.{sign_of}
+use Rattle.laws.specs.Rows.{voice_of}
 use Rattle.laws.proofs.Bars.{marks, lines, lines_print}
 use Rattle.laws.proofs.Reading.{reads_back}
 use Rattle.laws.proofs.Rows.{length_voice}
@@ -75,6 +76,13 @@ unfolding heard
 few_notes [] t = omega arith
 few_notes (note p a d ∷ es) t = let i = few_notes es (t + d) in omega arith
 few_notes (silence d ∷ es) t = let i = few_notes es (t + d) in omega arith
+
+pub few_events : (ps xs ds : List ℕ) → length (voice_of ps xs ds) ≤ length ds
+unfolding voice_of
+few_events [] xs ds = omega arith
+few_events (p ∷ ps) [] ds = omega arith
+few_events (p ∷ ps) (x ∷ xs) [] = omega arith
+few_events (p ∷ ps) (x ∷ xs) (d ∷ ds) = let i = few_events ps xs ds in omega arith
 
 -- the bars of a voice are more than it fills
 pub bars_more : (b t : ℕ) → 0 < b → t < (t / b + 1) * b

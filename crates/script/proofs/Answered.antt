@@ -69,8 +69,8 @@ unfolding each
 one_line out new a e = e ∙ ap (λ (x : List ℕ). out ++ x) (sym (append-nil (answer_line a)))
 
 -- what is served, and what is not
-pub picked_ok : {A E : Type 0} (b : Bool) (x y : A) (e : E) → Ok x ≡ pick b (Ok y) (Err e) → b ≡ true
-picked_ok true x y e h = refl
+pub picked_ok : {A E : Type 0} (b : Bool) (x y : A) (e : E) → Ok x ≡ pick b (Ok y) (Err e) → (b ≡ true) × (x ≡ y)
+picked_ok true x y e h = (refl, cc)
 picked_ok false x y e h = cc
 
 pub picked_err : {A E : Type 0} (b : Bool) (y : A) (d e : E) → Err d ≡ pick b (Ok y) (Err e) → (b ≡ false) × (d ≡ e)

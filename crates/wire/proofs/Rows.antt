@@ -29,6 +29,14 @@ all_below-++ b [] ys p q = q
 all_below-++ b (x ∷ xs) ys p q =
     let both = and_parts (ltb x b) (all_below b xs) p in and_from (ltb x b) _ both.0 (all_below-++ b xs ys both.1 q)
 
+pub all_below_parts : (b : ℕ) (xs ys : List ℕ) → all_below b (xs ++ ys) ≡ true → (all_below b xs ≡ true) × (all_below b ys ≡ true)
+unfolding all_below
+all_below_parts b [] ys p = (refl, p)
+all_below_parts b (x ∷ xs) ys p =
+    let both = and_parts (ltb x b) (all_below b (xs ++ ys)) p in
+    let rest = all_below_parts b xs ys both.1 in
+    (and_from (ltb x b) _ both.0 rest.0, rest.1)
+
 pub all_below_more : (b x : ℕ) (xs : List ℕ) → x < b → all_below b xs ≡ true → all_below b (x ∷ xs) ≡ true
 unfolding all_below
 all_below_more b x xs h p = and_from (ltb x b) _ (lt-ltb x b h) p

@@ -12,7 +12,7 @@ use Rattle.script.proofs.desk.answer_opened.Goals as goal
 pub returns-in_ok-open-in-Ok : goal.returns-in_ok-open-in-Ok
 returns-in_ok-open-in-Ok c =
     retold c.answer_lines.result (string_bytes c.answer_lines.new.out) (string_bytes c.args.out.now) _ _
-    (opened_so c.args.opening c.in_ok-open-in-Ok.field-0.words.items (lines_in c.args.lines) (picked_ok _ _ _ _ c.in-Ok.ensures) c.in_ok-open-in-Ok.ensures) c.answer_lines.ensures
+    (opened_so c.args.opening c.in_ok-open-in-Ok.field-0.words.items (lines_in c.args.lines) ((picked_ok _ _ _ _ c.in-Ok.ensures).0) c.in_ok-open-in-Ok.ensures) c.answer_lines.ensures
 
 pub returns-in_ok-writeln-in-Err : goal.returns-in_ok-writeln-in-Err
 returns-in_ok-writeln-in-Err c =
