@@ -1,10 +1,10 @@
 -- A length laid over bar lines. Assumes nothing.
 use Rattle.std.proofs.Common.{◌≡◌, ℕ, zero, suc, ◌+◌, ◌-◌, ◌%◌, ◌<◌, ◌≤◌, true, false, eqb, leb, ◌⊎◌, List, [], ◌∷◌, ◌++◌, sym, refl, ap, ◌∙◌, subst, inl, inr, append_assoc, append-nil, add-zero, add_assoc, mod-lt, mod-eq_of_lt, arith}
 use native.Mathlib.Nat.{add-mod_left, mod-mod_of_dvd, dvd_of_mod-eq-zero}
-use Rattle.std.proofs.lemmas.Bool.{eqb-true, eqb-false, leb-true, leb-false, and_parts}
+use Rattle.std.proofs.lemmas.Bool.{eqb-true, eqb-false, leb-true, leb-false, le-leb, and_parts}
 use Rattle.score.specs.Print.{all_values, pieces, Chunk, value, line, as_values, lesser, chunks, has_line}
 use Rattle.score.specs.Promise.{sum_of, is_value, all_are}
-use Rattle.score.proofs.Picks.{pick_both}
+use Rattle.score.proofs.Picks.{pick_true, pick_both}
 use Rattle.laws.specs.Laying.{span, LiesWell}
 use Rattle.laws.proofs.Pieces.{value_good, pieces_sum, pieces_are, Begins, pieces_begin}
 
@@ -18,6 +18,12 @@ pub lesser_both : (a b : ℕ) → (lesser a b ≤ a) × (lesser a b ≤ b) × ((
 lesser_both a b =
     pick_both (λ (x : ℕ). (x ≤ a) × (x ≤ b) × ((x ≡ a) ⊎ (x ≡ b))) (leb a b) a b
     (λ e. (omega arith, leb-true a b e, inl refl)) (λ e. (omega (arith, leb-false a b e), omega arith, inr refl))
+
+pub lesser_less : (a b v : ℕ) → lesser a b - v ≡ lesser (a - v) (b - v)
+lesser_less a b v =
+    pick_both (λ (x : ℕ). x - v ≡ lesser (a - v) (b - v)) (leb a b) a b
+    (λ e. sym (pick_true _ _ _ (le-leb (a - v) (b - v) (omega (arith, leb-true a b e)))))
+    (λ e. pick_both (λ (x : ℕ). b - v ≡ x) (leb (a - v) (b - v)) (a - v) (b - v) (λ f. omega (arith, leb-true (a - v) (b - v) f, leb-false a b e)) (λ _. refl))
 
 -- A length laid over bars is none; or it ends in this bar; or it fills this bar, and the rest is laid from the next bar on.
 abbrev pub Laid : (List Chunk → Type 0) → ℕ → ℕ → ℕ → ℕ → Type 0

@@ -1,5 +1,5 @@
 -- A range of events in words: its first event is marked, and without that mark it is the range from the next event on. Assumes nothing.
-use Rattle.std.proofs.Common.{◌≡◌, ℕ, suc, ◌+◌, ◌-◌, ◌*◌, ◌/◌, ◌%◌, ◌^◌, ◌<◌, ◌≤◌, eqb, ltb, List, ◌++◌, length, get_or, take, drop, set, replicate, length-take, length-drop, sym, ap, ◌∙◌, inl, inr, one-mul, pow-suc, arith, pow_pos, pow_mono}
+use Rattle.std.proofs.Common.{◌≡◌, ℕ, suc, ◌+◌, ◌-◌, ◌*◌, ◌/◌, ◌%◌, ◌^◌, ◌<◌, ◌≤◌, min, eqb, ltb, List, ◌++◌, length, get_or, take, drop, set, replicate, length-take, length-drop, sym, ap, ◌∙◌, inl, inr, one-mul, pow-suc, arith, pow_pos, pow_mono}
 use borrow.Rule.Slice.PartMut.{put_mid, same_len_mid}
 use lib.Bits.{bit_and, bit_xor, and_high, xor_add_and}
 use lib.Pow.{high_ones}
@@ -85,6 +85,14 @@ marked_part a c m k ws ys none le l count long h =
                 ∙ nothing
           ]
     ])
+
+-- the part of a range that lies before a word gets longer by that word
+pub marked_more : (a c m w n : ℕ) → w < m → n ≡ mark_word a c w → set (marked a (min c (32 * w)) m) w n ≡ marked a (min c (32 * (w + 1))) m
+marked_more a c m w n h e =
+    let here : low c w ≡ low (min c (32 * (w + 1))) w = omega arith in
+    word_set a (min c (32 * w)) a (min c (32 * (w + 1))) m w n h (e ∙ ap (λ (i : ℕ). 2 ^ i - 2 ^ low a w) here) (λ q ne.
+    let there : low (min c (32 * w)) q ≡ low (min c (32 * (w + 1))) q = elim (cases_lt q w) [ inl l ↦ omega arith | inr l ↦ omega arith ] in
+    ap (λ (i : ℕ). 2 ^ i - 2 ^ low a q) there)
 
 -- ---- its events are taken from the front
 

@@ -10,6 +10,13 @@ use Rattle.rows.specs.declared.Row.{Row}
 use Rattle.rows.specs.Rows.{event_in, fits}
 use Rattle.records.specs.Records.{records_of}
 
+pub four_first : (ns : List ℕ) → 4 ≤ length ns → ns ≡ get_or ns 0 0 ∷ (get_or ns 1 0 ∷ (get_or ns 2 0 ∷ (get_or ns 3 0 ∷ drop 4 ns)))
+four_first [] h = absurd (omega arith)
+four_first (v ∷ []) h = absurd (omega arith)
+four_first (v ∷ (p ∷ [])) h = absurd (omega arith)
+four_first (v ∷ (p ∷ (a ∷ []))) h = absurd (omega arith)
+four_first (v ∷ (p ∷ (a ∷ (d ∷ ns)))) h = refl
+
 -- four numbers are a record, and fewer are none
 pub first_record : (ns : List ℕ) → 4 ≤ length ns →
     records_of ns ≡ record { voice = get_or ns 0 0; row = record { place = get_or ns 1 0; alteration = get_or ns 2 0; length = get_or ns 3 0 } } ∷ records_of (take (length ns - 4) (drop 4 ns))
