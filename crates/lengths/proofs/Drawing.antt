@@ -74,12 +74,16 @@ pub start : (n at left : ℕ) (out : List ℕ) → at ≡ 0 → left ≡ n → W
 unfolding Writing
 start n at left out e f = (ap₂ (λ (i m : ℕ). take i out ++ pieces m m) e f, refl, omega arith)
 
+-- what is written and what is still owed are together as many as all of them
+together : (n at left : ℕ) (was out : List ℕ) → Writing n at left was out → at + length (pieces left left) ≡ length (pieces n n)
+unfolding Writing
+together n at left was out w =
+    let f : length (take at out) + length (pieces left left) ≡ length (pieces n n) = sym (length-append (take at out) (pieces left left)) ∙ ap length w.0 in
+    omega (arith, length-take-le at out w.2)
+
 -- they are few
 pub counted : (n at left : ℕ) (was out : List ℕ) → Writing n at left was out → at + length (pieces left left) ≤ n / 192 + 3
-unfolding Writing
-counted n at left was out w =
-    let f : length (take at out) + length (pieces left left) ≡ length (pieces n n) = sym (length-append (take at out) (pieces left left)) ∙ ap length w.0 in
-    omega (arith, length-take-le at out w.2, few n)
+counted n at left was out w = omega (arith, together n at left was out w, few n)
 
 -- there is room for the next value
 pub room : (n at left : ℕ) (was out vs : List ℕ) (v : ℕ) → Writing n at left was out → n / 192 + 3 ≤ length out → pieces left left ≡ v ∷ vs → at < length out
@@ -107,7 +111,4 @@ done n at left was out w e =
 
 -- as many as there are
 pub written : (n at left : ℕ) (was out : List ℕ) → Writing n at left was out → pieces left left ≡ [] → at ≡ length (pieces n n)
-unfolding Writing
-written n at left was out w e =
-    let f : length (take at out) + length (pieces left left) ≡ length (pieces n n) = sym (length-append (take at out) (pieces left left)) ∙ ap length w.0 in
-    omega (arith, length-take-le at out w.2, ap length e)
+written n at left was out w e = omega (arith, together n at left was out w, ap length e)

@@ -77,6 +77,7 @@ few_notes [] t = omega arith
 few_notes (note p a d ∷ es) t = let i = few_notes es (t + d) in omega arith
 few_notes (silence d ∷ es) t = let i = few_notes es (t + d) in omega arith
 
+-- there are no more events than lengths, whatever the other rows have
 pub few_events : (ps xs ds : List ℕ) → length (voice_of ps xs ds) ≤ length ds
 unfolding voice_of
 few_events [] xs ds = omega arith

@@ -10,6 +10,7 @@ use Rattle.rows.specs.declared.Row.{Row}
 use Rattle.rows.specs.Rows.{event_in, fits}
 use Rattle.records.specs.Records.{records_of}
 
+-- the first four numbers, and those behind them
 pub four_first : (ns : List ℕ) → 4 ≤ length ns → ns ≡ get_or ns 0 0 ∷ (get_or ns 1 0 ∷ (get_or ns 2 0 ∷ (get_or ns 3 0 ∷ drop 4 ns)))
 four_first [] h = absurd (omega arith)
 four_first (v ∷ []) h = absurd (omega arith)

@@ -63,7 +63,7 @@ impl Desk {
     {
         match read_call(line) {
             Ok(asked) => self.answer_call(asked, out),
-            // as an answer is spelled, so that the same is told where memory runs out
+            // as the answer of a refused call is spelled: where memory runs out, the same is told of both
             Err(unfit) => Ok(spell_refusal(UNREADABLE, unfit.at, out)?),
         }
     }

@@ -97,7 +97,7 @@ impl<'a> Iterator for Lines<'a> {
 
     fn next(&mut self) -> Option<&'a [u8]> {
         let Some((line, rest)) = next_line(self.text) else {
-            // what says nothing there is passed over once
+            // what stands behind the last line that says something is gone over only once
             self.text = &[];
             return None;
         };

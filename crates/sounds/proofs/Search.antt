@@ -17,7 +17,7 @@ earlier_bar {m} {bs} {ts} a i o l h =
     omega (arith, o.in_bar i l, over, whole)
 
 -- so many events begin before tick a of a voice that begins at tick t
-pub passed_is : (a t r : ℕ) (ds : List ℕ) → r ≤ length ds → ((i : ℕ) → i < r → t + sum (take i ds) < a) → (r < length ds → a ≤ t + sum (take r ds)) → r ≡ passed a t ds
+passed_is : (a t r : ℕ) (ds : List ℕ) → r ≤ length ds → ((i : ℕ) → i < r → t + sum (take i ds) < a) → (r < length ds → a ≤ t + sum (take r ds)) → r ≡ passed a t ds
 unfolding passed
 passed_is a t zero [] l b h = refl
 passed_is a t (suc r) [] l b h = absurd (omega arith)
